@@ -1,0 +1,9 @@
+pub mod Codes
+pub mod Laws
+pub mod Limits
+pub mod Made
+pub mod Meaning
+pub mod Of
+pub mod Recovery
+pub mod Rises
+pub mod Runs
