@@ -3,6 +3,7 @@ pub mod Laws
 pub mod Limits
 pub mod Made
 pub mod Meaning
+pub mod Modes
 pub mod Of
 pub mod Recovery
 pub mod Rises

@@ -1,0 +1,4 @@
+pub mod Modes
+pub mod Laws
+pub mod Press
+pub mod Relations

@@ -1,0 +1,2 @@
+pub mod Button
+pub mod Inner
