@@ -1,34 +1,18 @@
--- A group of rising blocks is a rising block, and can be brought on by one rise.
+-- A group of rising blocks is a rising block.
 use borrow.Author.Needs.{needs}
-use mathlib.Core.Bool.{true, false}
-use mathlib.Core.List.{[], _∷_}
-use lib.Dec.{lit<}
 use Rattle.block.specs.declared.types.Input.{Input}
 use Rattle.block.specs.Laws.{Step-laws, Waiting-can-come-on}
 use Rattle.block.specs.Meaning.{Meaning}
 use Rattle.block.specs.Rises.{Rises}
-use Rattle.block.specs.Runs.{Press, Reset-off, pressed}
+use Rattle.block.specs.Runs.{Reset-off}
+use Rattle.block.proofs.Rise.{comes-on-at-a-rise}
 use Rattle.group.specs.Group.{turned-input, grouped}
+use Rattle.group.proofs.Laws.{group-steps}
 
 turned-off : (i : Input) → Reset-off i → Reset-off (turned-input i)
 turned-off i q = record { active = q .active; off = q .off }
 
--- one rise of the reset
-abbrev rise : Press
-rise = record { now = true; elapsed = 0 }
-
 module _ {A B : Type 0} (a : Meaning A) (b : Meaning B) (la : Step-laws a) (lb : Step-laws b) (ra : Rises a) (rb : Rises b) where
-  pub group-comes-on : Waiting-can-come-on (grouped a b)
-  group-comes-on g w wait clear =
-      let i = pressed w false rise in
-      let x = ra .at-a-rise (g .first) i in
-      let y = rb .at-a-rise (g .second) (turned-input i) in
-      let ex = la .released (g .first) i in
-      let ey = lb .released (g .second) (turned-input i) in
-      let kx = la .keeps-on (g .first) i in
-      let ky = lb .keeps-on (g .second) (turned-input i) in
-      record { steps = rise ∷ []; short = (lit< tt, tt); ends-on = search needs }
-
   pub group-rises : Rises (grouped a b)
   group-rises = record {
     at-a-rise = λ g i w. let x = ra .at-a-rise (g .first) i in let y = rb .at-a-rise (g .second) (turned-input i) in search needs;
@@ -62,3 +46,6 @@ module _ {A B : Type 0} (a : Meaning A) (b : Meaning B) (la : Step-laws a) (lb :
         let y = rb .no-fault (g .second) (turned-input i) in
         search needs;
   }
+
+  pub group-comes-on : Waiting-can-come-on (grouped a b)
+  group-comes-on = comes-on-at-a-rise (grouped a b) (group-steps a b la lb) group-rises

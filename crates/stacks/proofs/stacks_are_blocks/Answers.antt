@@ -1,0 +1,11 @@
+use Rattle.stacks.proofs.Depth.{stands}
+use Rattle.stacks.proofs.stacks_are_blocks.Needs as need
+
+pub returns : need.returns
+returns g c = record {
+  stacks = λ s. stands s;
+  leaf-laws = c .keeps-laws .ensures;
+  leaf-rises = c .rises .ensures;
+  group = c .group-is-its-members .ensures;
+  button = c .button-is-its-inner .ensures;
+}
