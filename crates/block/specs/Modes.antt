@@ -1,7 +1,18 @@
--- Tests of a mode.
+-- The words of the modes, and tests of a mode.
 use mathlib.Core.Bool.{Bool, true, false}
+use mathlib.Core.List.{List}
+use Prim.Native.Nat.{ℕ}
+use lib.Chars.{codes}
 use Rattle.block.specs.declared.types.Mode.{Mode}
 use Rattle.block.specs.declared.types.Mode.the-variants.{Idle, Off, Waiting, On, Fault}
+
+-- as reports name them
+abbrev pub mode-word : Mode → List ℕ
+mode-word Idle = codes "idle"
+mode-word Off = codes "off"
+mode-word Waiting = codes "wait"
+mode-word On = codes "on"
+mode-word Fault = codes "fault"
 
 abbrev pub is-idle : Mode → Bool
 is-idle Idle = true

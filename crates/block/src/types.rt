@@ -1,4 +1,6 @@
 // The plain values of the interface: modes, words of pins, the input of a step, kinds of block.
+ghost use mathlib.Core.Path.{_≡_};
+ghost use Rattle.block.specs.Modes.{mode-word};
 
 // What a block is doing. Waiting means that it is clear and asks for its reset.
 #[derive(Clone, Copy, PartialEq, Eq)]
@@ -8,6 +10,21 @@ pub enum Mode {
     Waiting,
     On,
     Fault,
+}
+
+impl Mode {
+    // The mode as reports name it.
+    pub fn word(self) -> &'static [u8]
+        ensures { λ r. ⌜ now r ≡ mode-word self ⌝ }
+    {
+        match self {
+            Mode::Idle => b"idle",
+            Mode::Off => b"off",
+            Mode::Waiting => b"wait",
+            Mode::On => b"on",
+            Mode::Fault => b"fault",
+        }
+    }
 }
 
 // The four safe input bits of a row, pin 0 to pin 3.

@@ -7,6 +7,7 @@ use block::Block;
 use block::Code;
 use block::Input;
 use block::Mode;
+use block::ModePartialEq;
 use block::Rising;
 use block::Setup;
 use block::Word;
@@ -151,7 +152,7 @@ pub impl<T: PinTest> Block for Gate<T> as GateBlock {
     }
 
     fn requests_reset(&self) -> bool {
-        false
+        self.mode() == Mode::Waiting
     }
 
     fn is_clear(&self, word: Word) -> bool {

@@ -70,14 +70,11 @@ impl StopState {
 fn first_next(settings: StopSettings, input: Input) -> StopState
     ensures { λ r. ⌜ r ≡ first-next settings input ⌝ }
 {
-    if !settings.start() && input.now {
-        StopState::FirstFault
-    } else if !input.word.pin0 {
-        StopState::FirstOff
-    } else if settings.start() {
-        StopState::On
-    } else {
-        StopState::FirstReady
+    match (settings.start(), input.now, input.word.pin0) {
+        (false, true, _) => StopState::FirstFault,
+        (_, _, false) => StopState::FirstOff,
+        (true, _, true) => StopState::On,
+        (false, false, true) => StopState::FirstReady,
     }
 }
 
@@ -85,14 +82,11 @@ fn first_next(settings: StopSettings, input: Input) -> StopState
 fn again_next(settings: StopSettings, input: Input) -> StopState
     ensures { λ r. ⌜ r ≡ again-next settings input ⌝ }
 {
-    if !settings.auto() && input.now {
-        StopState::AgainFault
-    } else if !input.word.pin0 {
-        StopState::AgainOff
-    } else if settings.auto() {
-        StopState::On
-    } else {
-        StopState::AgainReady
+    match (settings.auto(), input.now, input.word.pin0) {
+        (false, true, _) => StopState::AgainFault,
+        (_, _, false) => StopState::AgainOff,
+        (true, _, true) => StopState::On,
+        (false, false, true) => StopState::AgainReady,
     }
 }
 
@@ -100,12 +94,11 @@ fn again_next(settings: StopSettings, input: Input) -> StopState
 fn ready_next(off: StopState, ready: StopState, input: Input) -> StopState
     ensures { λ r. ⌜ r ≡ ready-next off ready input ⌝ }
 {
-    if !input.word.pin0 {
-        off
-    } else if input.now && !input.before {
-        StopState::On
-    } else {
-        ready
+    let rise = input.now && !input.before;
+    match (input.word.pin0, rise) {
+        (false, _) => off,
+        (true, true) => StopState::On,
+        (true, false) => ready,
     }
 }
 

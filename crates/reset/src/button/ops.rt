@@ -86,7 +86,7 @@ impl ResetButton {
         } else {
             self.enter(ButtonState::Idle);
         }
-        (self.state == ButtonState::Pulse, self.state.code())
+        (self.state == ButtonState::Pulse, self.code())
     }
 
     // A step while a reset is requested.
