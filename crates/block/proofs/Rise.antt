@@ -6,14 +6,14 @@ use lib.Dec.{lit<}
 use Rattle.block.specs.Laws.{Step-laws, Waiting-can-come-on}
 use Rattle.block.specs.Meaning.{Meaning}
 use Rattle.block.specs.Rises.{Rises}
-use Rattle.block.specs.Runs.{Press, pressed}
+use Rattle.block.specs.Runs.{Reset-step, with-reset}
 
-abbrev pub rise : Press
-rise = record { now = true; elapsed = 0 }
+abbrev up : Reset-step
+up = record { now = true; elapsed = 0 }
 
 pub comes-on-at-a-rise : {B : Type 0} (m : Meaning B) → Step-laws m → Rises m → Waiting-can-come-on m
 comes-on-at-a-rise m law rises b w waits clear = record {
-  steps = rise ∷ [];
-  short = (lit< tt, tt);
-  ends-on = law .released b (pressed w false rise) waits .1 (refl, clear, rises .at-a-rise b (pressed w false rise) waits);
+  steps = up ∷ [];
+  fits = (lit< tt, tt);
+  ends-on = law .released b (with-reset w false up) waits .1 (refl, clear, rises .at-a-rise b (with-reset w false up) waits);
 }

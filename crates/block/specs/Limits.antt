@@ -5,9 +5,16 @@ use lib.Dec.{leb}
 use Rattle.block.specs.declared.types.Kind.{Kind}
 use Rattle.block.specs.declared.types.Kind.the-variants.{And, Or, Estop}
 
--- 100 ≤ min ≤ max ≤ 60,000 milliseconds
+-- the limits of a press, in milliseconds
+abbrev pub shortest-press : ℕ
+shortest-press = 100
+
+abbrev pub longest-press : ℕ
+longest-press = 60000
+
+-- min is at most max, and both are within the limits of a press
 abbrev pub times-allowed : ℕ → ℕ → Bool
-times-allowed min max = leb 100 min && (leb min max && leb max 60000)
+times-allowed min max = leb shortest-press min && (leb min max && leb max longest-press)
 
 -- the kinds that may have start or auto 1
 abbrev pub has-restart : Kind → Bool

@@ -1,5 +1,5 @@
 // A sheet row's block settings, within the sheet's limits in every value.
-// No file of specs/ that names the record is imported here.
+// A file of specs/ that names the record imports this one, so none is imported here.
 ghost use mathlib.Core.Path.{_≡_};
 ghost use mathlib.Core.Bool.{true};
 ghost use Rattle.block.specs.Limits.{settings-allowed};

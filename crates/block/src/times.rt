@@ -1,5 +1,5 @@
 // The two times of a sheet, within its limits in every value.
-// No file of specs/ that names the record is imported here.
+// A file of specs/ that names the record imports this one, so none is imported here.
 ghost use mathlib.Core.Path.{_≡_};
 ghost use mathlib.Core.Bool.{true};
 ghost use Rattle.block.specs.Limits.{times-allowed};

@@ -6,7 +6,7 @@ use Rattle.block.specs.declared.types.Mode.the-variants.{Fault}
 use Rattle.block.specs.Laws.{Step-laws}
 use Rattle.block.specs.Meaning.{Meaning}
 use Rattle.reset.specs.Machine.{in-error}
-use Rattle.button.specs.Button.{fields-next, inner-step, button-mode, is-in-error, buttoned}
+use Rattle.button.specs.Button.{inner-step, button-mode, is-in-error, buttoned}
 use Rattle.button.proofs.Modes.{idle-in, idle-out, off-in, off-out, on-in, on-out, waiting-in, waiting-out, fault-in, fault-cases, fault-out, pulse-in, inner-quiet, no-error-back}
 
 module _ {B : Type 0} (m : Meaning B) (law : Step-laws m) where

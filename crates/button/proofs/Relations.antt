@@ -1,14 +1,14 @@
 -- The layer is what the relations say of its inner block and button.
 use borrow.Author.Needs.{needs}
-use mathlib.Core.Path.{_≡_, refl}
+use mathlib.Core.Path.{refl}
+use Rattle.block.specs.Laws.{Step-laws}
 use Rattle.block.specs.Meaning.{Meaning}
-use Rattle.reset.specs.declared.fields.ButtonFields.{ButtonFields}
 use Rattle.button.specs.declared.Button.{Button}
-use Rattle.button.specs.Button.{button-input, inner-step, buttoned, button-mode, is-in-error}
+use Rattle.button.specs.Button.{button-input, inner-step, buttoned}
 use Rattle.button.specs.Inner.{Buttons}
 use Rattle.button.proofs.Modes.{waiting-in, waiting-out, fault-cases}
 
-module _ {B : Type 0} (m : Meaning B) where
+module _ {B : Type 0} (m : Meaning B) (law : Step-laws m) where
   pub button-relations : Buttons (λ (b : Button B). b .inner) (λ b. b .button) m (buttoned m)
   button-relations = record {
     fault = λ x. (fault-cases _ _, λ h. search needs);
@@ -32,6 +32,7 @@ module _ {B : Type 0} (m : Meaning B) where
       steps = record { active = refl; word = refl; now = refl; before = refl; elapsed = refl };
       next = refl;
       releases = (λ h. h, λ h. h);
+      pulse = λ h. let apart = law .edge (x .inner) (inner-step m x i) h .1 in search needs;
     };
     makes-inner = λ s. refl;
     makes-button = λ s. refl;

@@ -13,7 +13,7 @@ use Rattle.reset.specs.Limits.{read-back}
 use Rattle.reset.specs.Machine.{made-button, button-next, button-code, is-pulse, in-error}
 use Rattle.button.specs.declared.Button.{Button}
 
--- the button is requested when the inner block waited before an active step
+-- what a step brings the button; m is the inner mode before it
 abbrev pub button-input : Mode → Input → ResetInput
 button-input m i = record { requested = i .active && is-waiting m; now = i .now; before = i .before; elapsed = i .elapsed }
 
@@ -21,11 +21,11 @@ button-input m i = record { requested = i .active && is-waiting m; now = i .now;
 abbrev pub fields-next : Mode → ButtonFields → Input → ButtonFields
 fields-next m f i = button-next (read-back f) (button-input m i)
 
--- the inner block gets the pulse as now and off as before
+-- a pulse is a rise for the inner block
 abbrev pub inner-input : ButtonFields → Input → Input
 inner-input f i = record { active = i .active; word = i .word; now = is-pulse (f .state); before = false; elapsed = i .elapsed }
 
--- where the inner block waits, fault if the button is in a C state; else the inner mode
+-- a C state of the button is a fault while the inner block waits
 abbrev pub button-mode : Mode → Bool → Mode
 button-mode m error = cond (is-waiting m && error) Fault m
 
@@ -33,7 +33,7 @@ button-mode m error = cond (is-waiting m && error) Fault m
 abbrev pub is-in-error : ButtonFields → Bool
 is-in-error f = in-error (read-back f .state)
 
--- the button's code while the inner block waits, else the inner code
+-- while the inner block waits, the button tells why
 abbrev pub shown-code : Mode → ButtonState → Code → Code
 shown-code m s c = cond (is-waiting m) (button-code s) c
 

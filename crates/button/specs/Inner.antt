@@ -13,7 +13,7 @@ use Rattle.reset.specs.declared.fields.ResetInput.{ResetInput}
 use Rattle.reset.specs.Limits.{read-back}
 use Rattle.reset.specs.Machine.{made-button, button-next, button-code, is-pulse, in-error}
 
--- the button steps as a requested one exactly if the step is active and the inner block waited before it
+-- the button is requested in an active step of a block that waited
 pub record Button-steps (waited : Type 0) (f f′ : ButtonFields) (i : Input) : Type 0 where
   pub input : ResetInput
   pub requested : (input .requested ≡ true) ↔ ((i .active ≡ true) × waited)
@@ -22,7 +22,7 @@ pub record Button-steps (waited : Type 0) (f f′ : ButtonFields) (i : Input) : 
   pub elapsed : input .elapsed ≡ i .elapsed
   pub follows : f′ ≡ button-next (read-back f) input
 
--- the inner block steps with the pulse as now and off as before; all else of the step is the row's
+-- the step that the inner block sees: the pulse stands in for the reset
 pub record Inner-steps (f′ : ButtonFields) (i j : Input) : Type 0 where
   pub active : j .active ≡ i .active
   pub word : j .word ≡ i .word
@@ -35,21 +35,22 @@ pub record Inner-stepped {B L : Type 0} (inner : L → B) (fields : L → Button
   pub seen : Input
   pub steps : Inner-steps (fields (l .next x i)) i seen
   pub next : inner (l .next x i) ≡ m .next (inner x) seen
-  -- it releases when the inner block does, and only at the button's pulse
   pub releases : (l .releases x i ≡ true) ↔ (m .releases (inner x) seen ≡ true)
+  -- which is at the button's pulse
+  pub pulse : l .releases x i ≡ true → is-pulse (fields (l .next x i) .state) ≡ true
 
 pub record Buttons {B L : Type 0} (inner : L → B) (fields : L → ButtonFields) (m : Meaning B) (l : Meaning L) : Type 0 where
-  -- fault: the inner block is, or it waits and the button is in a C state
+  -- a fault is the inner block's, or the button's while the inner block waits
   pub fault : (x : L) → (l .mode x ≡ Fault) ↔ ((m .mode (inner x) ≡ Fault) ⊎ ((m .mode (inner x) ≡ Waiting) × (in-error (read-back (fields x) .state) ≡ true)))
-  -- waiting: the inner block waits and the button is in no C state
+  -- the layer waits with the inner block, unless the button is in a C state
   pub waiting : (x : L) → (l .mode x ≡ Waiting) ↔ ((m .mode (inner x) ≡ Waiting) × (in-error (read-back (fields x) .state) ≡ false))
-  -- every other mode is the inner one
+  -- in the other modes the layer follows the inner block
   pub other : (x : L) (o : Mode) → (o ≡ Fault → ⊥) → (o ≡ Waiting → ⊥) → (l .mode x ≡ o) ↔ (m .mode (inner x) ≡ o)
-  -- clear words, latched flag and request are the inner ones
+  -- these are handed up from the inner block
   pub clear : (x : L) (w : Word) → (l .clear x w ≡ true) ↔ (m .clear (inner x) w ≡ true)
   pub latched : (x : L) → (l .latched x ≡ true) ↔ (m .latched (inner x) ≡ true)
   pub requests : (x : L) → (l .requests x ≡ true) ↔ (m .requests (inner x) ≡ true)
-  -- the button's code shows while the inner block waits, else the inner code
+  -- the code: the button's in waiting
   pub shows-button : (x : L) → m .mode (inner x) ≡ Waiting → l .code x ≡ button-code (read-back (fields x) .state)
   pub shows-inner : (x : L) → (m .mode (inner x) ≡ Waiting → ⊥) → l .code x ≡ m .code (inner x)
   -- both step

@@ -1,5 +1,4 @@
 // The button layer: one rising block under one reset button.
-ghost use mathlib.Core.Path.{_≡_};
 ghost use Rattle.block.specs.Of.{meaning};
 ghost use Rattle.button.specs.Button.{buttoned};
 use block::Block;

@@ -1,12 +1,12 @@
 -- A block of any kind keeps the laws and is rising, from what its kinds keep.
 use mathlib.Core.Path.{_≡_}
-use mathlib.Core.Bool.{_&&_, not}
 use Rattle.block.specs.declared.types.Input.{Input}
 use Rattle.block.specs.declared.types.Mode.the-variants.{Waiting}
 use Rattle.block.specs.declared.types.Word.{Word}
 use Rattle.block.specs.Laws.{Step-laws, Releases-waiting-at-an-edge}
 use Rattle.block.specs.Meaning.{Meaning}
 use Rattle.block.specs.Rises.{Rises}
+use Rattle.block.specs.Runs.{rise}
 use Rattle.catalogue.specs.declared.Catalogue.{Catalogue}
 use Rattle.catalogue.specs.declared.Catalogue.the-variants.{And, Or, Estop}
 use Rattle.catalogue.specs.declared.gate.AllPins.{AllPins}
@@ -52,7 +52,7 @@ module _ (a : Meaning (Gate AllPins)) (o : Meaning (Gate AnyPin)) (e : Meaning S
     }
 
   module _ (ra : Rises a) (ro : Rises o) (re : Rises e) where
-    any-rise : (b : Catalogue) (i : Input) → any-kind a o e .mode b ≡ Waiting → any-kind a o e .releases b i ≡ (i .now && not (i .before))
+    any-rise : (b : Catalogue) (i : Input) → any-kind a o e .mode b ≡ Waiting → any-kind a o e .releases b i ≡ rise (i .now) (i .before)
     any-rise (And g) = ra .at-a-rise g
     any-rise (Or g) = ro .at-a-rise g
     any-rise (Estop s) = re .at-a-rise s

@@ -1,5 +1,4 @@
 -- The catalogue: each block behaves as its kind.
-use mathlib.Core.Bool.{Bool}
 use Rattle.block.specs.declared.types.Kind.{Kind}
 use Rattle.block.specs.declared.types.Kind.the-variants as kind
 use Rattle.block.specs.Meaning.{Meaning}

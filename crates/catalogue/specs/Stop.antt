@@ -5,8 +5,10 @@ use Rattle.block.specs.declared.code.Code.the-variants as code
 use Rattle.block.specs.declared.types.Input.{Input}
 use Rattle.block.specs.declared.types.Mode.{Mode}
 use Rattle.block.specs.declared.types.Mode.the-variants as mode
+use Rattle.block.specs.declared.types.Word.{Word}
 use Rattle.block.specs.Meaning.{Meaning}
 use Rattle.block.specs.Modes.{is-waiting}
+use Rattle.block.specs.Runs.{rise}
 use Rattle.catalogue.specs.declared.stop.Stop.{Stop}
 use Rattle.catalogue.specs.declared.stop.StopState.{StopState}
 use Rattle.catalogue.specs.declared.stop.StopState.the-variants.{Idle, Init, FirstOff, FirstReady, FirstFault, On, AgainOff, AgainReady, AgainFault}
@@ -35,24 +37,21 @@ stop-code AgainOff = code.H8804
 stop-code AgainReady = code.H8404
 stop-code AgainFault = code.HC011
 
--- pin 0 on is clear
-abbrev pub stop-clear : Input → Bool
-stop-clear i = i .word .pin0
+-- the word is clear while pin 0 is on
+abbrev pub stop-clear : Word → Bool
+stop-clear w = w .pin0
 
-abbrev pub rises : Input → Bool
-rises i = i .now && not (i .before)
-
--- init and first-off: with start 0, now on gives first-fault; then clear gives on if start is 1, else first-ready; otherwise first-off
+-- from init and first-off: a reset that is on too early is a fault unless start is 1; else a clear word makes it on or ready; else it is off
 abbrev pub first-next : StopSettings → Input → StopState
-first-next s i = cond (not (s .start) && i .now) FirstFault (cond (stop-clear i) (cond (s .start) On FirstReady) FirstOff)
+first-next s i = cond (not (s .start) && i .now) FirstFault (cond (stop-clear (i .word)) (cond (s .start) On FirstReady) FirstOff)
 
--- again-off: with auto 0, now on gives again-fault; then clear gives on if auto is 1, else again-ready; otherwise it stays
+-- from again-off: the same by auto
 abbrev pub again-next : StopSettings → Input → StopState
-again-next s i = cond (not (s .auto) && i .now) AgainFault (cond (stop-clear i) (cond (s .auto) On AgainReady) AgainOff)
+again-next s i = cond (not (s .auto) && i .now) AgainFault (cond (stop-clear (i .word)) (cond (s .auto) On AgainReady) AgainOff)
 
--- a ready state: not clear gives its off state; a rise gives on; otherwise it stays
+-- from a ready state: off without a clear word, on at a rise
 abbrev pub ready-next : StopState → StopState → Input → StopState
-ready-next off ready i = cond (stop-clear i) (cond (rises i) On ready) off
+ready-next off ready i = cond (stop-clear (i .word)) (cond (rise (i .now) (i .before)) On ready) off
 
 -- an active step
 abbrev pub stop-next : StopSettings → StopState → Input → StopState
@@ -60,11 +59,11 @@ stop-next s Idle i = Init
 stop-next s Init i = first-next s i
 stop-next s FirstOff i = first-next s i
 stop-next s FirstReady i = ready-next FirstOff FirstReady i
--- the faults go back when now is off
+-- a fault leaves once the reset is off
 stop-next s FirstFault i = cond (i .now) FirstFault FirstOff
 stop-next s AgainFault i = cond (i .now) AgainFault AgainOff
--- on: not clear gives again-off
-stop-next s On i = cond (stop-clear i) On AgainOff
+-- the stop drops without a clear word
+stop-next s On i = cond (stop-clear (i .word)) On AgainOff
 stop-next s AgainOff i = again-next s i
 stop-next s AgainReady i = ready-next AgainOff AgainReady i
 
@@ -76,10 +75,10 @@ settings-of b = record { start = b .start; auto = b .auto }
 abbrev pub estop : Meaning Stop
 estop = record {
   mode = λ b. stop-mode (b .state);
-  clear = λ b w. w .pin0;
-  latched = λ b. not (b .start) && not (b .auto);
-  releases = λ b i. is-waiting (stop-mode (b .state)) && rises i;
-  next = λ b i. record { start = b .start; auto = b .auto; state = cond (i .active) (stop-next (settings-of b) (b .state) i) Idle };
+  clear = λ b w. stop-clear w;
+  latched = λ b. not (settings-of b .start) && not (settings-of b .auto);
+  releases = λ b i. is-waiting (stop-mode (b .state)) && rise (i .now) (i .before);
+  next = λ b i. record { start = settings-of b .start; auto = settings-of b .auto; state = cond (i .active) (stop-next (settings-of b) (b .state) i) Idle };
   made = λ s. record { start = s .settings .start; auto = s .settings .auto; state = Idle };
   code = λ b. stop-code (b .state);
   requests = λ b. is-waiting (stop-mode (b .state));

@@ -1,16 +1,20 @@
 -- A group keeps the laws of the interface, from the laws of its members.
 use borrow.Author.Needs.{needs}
 use mathlib.Core.Path.{_≡_}
+use mathlib.Core.Bool.{true}
 use Rattle.block.specs.declared.types.Input.{Input}
 use Rattle.block.specs.Laws.{Step-laws}
 use Rattle.block.specs.Meaning.{Meaning}
 use Rattle.block.specs.Runs.{Quiet}
-use Rattle.group.specs.declared.Group.{Group}
 use Rattle.group.specs.Group.{turned-input, grouped}
+use Rattle.group.proofs.Steps.{group-no-fault, group-ends-off, group-ends-waiting}
 
 -- a quiet step is quiet for the second member too
 turned-quiet : (i : Input) → Quiet i → Quiet (turned-input i)
 turned-quiet i q = record { active = q .active; off = q .off; was-off = q .was-off }
+
+quiet-active : (i : Input) → Quiet i → i .active ≡ true
+quiet-active i q = q .active
 
 module _ {A B : Type 0} (a : Meaning A) (b : Meaning B) (la : Step-laws a) (lb : Step-laws b) where
   pub group-steps : Step-laws (grouped a b)
@@ -43,27 +47,9 @@ module _ {A B : Type 0} (a : Meaning A) (b : Meaning B) (la : Step-laws a) (lb :
           let wy = lb .no-start .not-waiting (g .second) (turned-input i) in
           search needs;
     };
-    ends-off = λ g i l m q.
-        let q′ = turned-quiet i q in
-        let x = la .ends-off (g .first) i in
-        let y = lb .ends-off (g .second) (turned-input i) in
-        let fx = la .no-fault (g .first) i in
-        let fy = lb .no-fault (g .second) (turned-input i) in
-        let ax = la .active (g .first) i in
-        let ay = lb .active (g .second) (turned-input i) in
-        search needs;
-    ends-waiting = λ g i l m q c.
-        let q′ = turned-quiet i q in
-        let x = la .ends-waiting (g .first) i in
-        let y = lb .ends-waiting (g .second) (turned-input i) in
-        let kx = la .keeps-on (g .first) i in
-        let ky = lb .keeps-on (g .second) (turned-input i) in
-        search needs;
-    no-fault = λ g i l n q e.
-        let q′ = turned-quiet i q in
-        let x = la .no-fault (g .first) i in
-        let y = lb .no-fault (g .second) (turned-input i) in
-        search needs;
+    ends-off = group-ends-off Quiet quiet-active turned-quiet a b la lb (la .no-fault) (lb .no-fault) (la .ends-off) (lb .ends-off);
+    ends-waiting = group-ends-waiting Quiet quiet-active turned-quiet a b la lb (la .ends-waiting) (lb .ends-waiting);
+    no-fault = group-no-fault Quiet quiet-active turned-quiet a b la lb (la .no-fault) (lb .no-fault);
     stay = record {
       clear = λ g i w. let x = la .stay .clear (g .first) i w in let y = lb .stay .clear (g .second) (turned-input i) in search needs;
       latched = λ g i. let x = la .stay .latched (g .first) i in let y = lb .stay .latched (g .second) (turned-input i) in search needs;

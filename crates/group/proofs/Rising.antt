@@ -1,5 +1,7 @@
 -- A group of rising blocks is a rising block.
 use borrow.Author.Needs.{needs}
+use mathlib.Core.Path.{_≡_}
+use mathlib.Core.Bool.{true}
 use Rattle.block.specs.declared.types.Input.{Input}
 use Rattle.block.specs.Laws.{Step-laws, Waiting-can-come-on}
 use Rattle.block.specs.Meaning.{Meaning}
@@ -8,9 +10,13 @@ use Rattle.block.specs.Runs.{Reset-off}
 use Rattle.block.proofs.Rise.{comes-on-at-a-rise}
 use Rattle.group.specs.Group.{turned-input, grouped}
 use Rattle.group.proofs.Laws.{group-steps}
+use Rattle.group.proofs.Steps.{group-no-fault, group-ends-off, group-ends-waiting}
 
 turned-off : (i : Input) → Reset-off i → Reset-off (turned-input i)
 turned-off i q = record { active = q .active; off = q .off }
+
+off-active : (i : Input) → Reset-off i → i .active ≡ true
+off-active i q = q .active
 
 module _ {A B : Type 0} (a : Meaning A) (b : Meaning B) (la : Step-laws a) (lb : Step-laws b) (ra : Rises a) (rb : Rises b) where
   pub group-rises : Rises (grouped a b)
@@ -24,27 +30,9 @@ module _ {A B : Type 0} (a : Meaning A) (b : Meaning B) (la : Step-laws a) (lb :
         let kx = la .keeps-on (g .first) i in
         let ky = lb .keeps-on (g .second) (turned-input i) in
         search needs;
-    ends-off = λ g i l m q.
-        let q′ = turned-off i q in
-        let x = ra .ends-off (g .first) i in
-        let y = rb .ends-off (g .second) (turned-input i) in
-        let fx = ra .no-fault (g .first) i in
-        let fy = rb .no-fault (g .second) (turned-input i) in
-        let ax = la .active (g .first) i in
-        let ay = lb .active (g .second) (turned-input i) in
-        search needs;
-    ends-waiting = λ g i l m q c.
-        let q′ = turned-off i q in
-        let x = ra .ends-waiting (g .first) i in
-        let y = rb .ends-waiting (g .second) (turned-input i) in
-        let kx = la .keeps-on (g .first) i in
-        let ky = lb .keeps-on (g .second) (turned-input i) in
-        search needs;
-    no-fault = λ g i l n q e.
-        let q′ = turned-off i q in
-        let x = ra .no-fault (g .first) i in
-        let y = rb .no-fault (g .second) (turned-input i) in
-        search needs;
+    ends-off = group-ends-off Reset-off off-active turned-off a b la lb (ra .no-fault) (rb .no-fault) (ra .ends-off) (rb .ends-off);
+    ends-waiting = group-ends-waiting Reset-off off-active turned-off a b la lb (ra .ends-waiting) (rb .ends-waiting);
+    no-fault = group-no-fault Reset-off off-active turned-off a b la lb (ra .no-fault) (rb .no-fault);
   }
 
   pub group-comes-on : Waiting-can-come-on (grouped a b)

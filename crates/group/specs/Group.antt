@@ -8,29 +8,30 @@ use Rattle.block.specs.Meaning.{Meaning}
 use Rattle.block.specs.Modes.{is-idle, is-waiting, is-on, is-fault}
 use Rattle.group.specs.declared.Group.{Group}
 
--- the second member's pins 0, 1, 2, 3 are the row's 2, 3, 0, 1
+-- the word turned by two pins, as the second member sees it
 abbrev pub turned : Word → Word
 turned w = record { pin0 = w .pin2; pin1 = w .pin3; pin2 = w .pin0; pin3 = w .pin1 }
 
 abbrev pub turned-input : Input → Input
 turned-input i = record { active = i .active; word = turned (i .word); now = i .now; before = i .before; elapsed = i .elapsed }
 
-abbrev pub is-ready : Mode → Bool
-is-ready m = is-waiting m || is-on m
+-- a member that waits or is on
+abbrev pub waits-or-on : Mode → Bool
+waits-or-on m = is-waiting m || is-on m
 
--- fault if either is, idle if either is, on if both are, waiting if each is waiting or on, else off
+-- the first line that fits decides
 abbrev pub joint-mode : Mode → Mode → Mode
 joint-mode a b =
     cond (is-fault a || is-fault b) Fault
     (cond (is-idle a || is-idle b) Idle
     (cond (is-on a && is-on b) On
-    (cond (is-ready a && is-ready b) Waiting Off)))
+    (cond (waits-or-on a && waits-or-on b) Waiting Off)))
 
--- a member that waits releases
+-- if the member waits, it releases
 abbrev pub lets-go : Mode → Bool → Bool
 lets-go m releases = not (is-waiting m) || releases
 
--- where the second is in fault and the first is not, or where the first is on
+-- whether the second member's code is the one to look at
 abbrev pub shows-second : Mode → Mode → Bool
 shows-second a b = (is-fault b && not (is-fault a)) || is-on a
 

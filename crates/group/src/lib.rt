@@ -126,8 +126,7 @@ pub impl<A: Rising, B: Rising> Block for Group<A, B> as GroupBlock {
     }
 
     fn comes_on() {
-        A::rises();
-        B::rises();
+        <Group<A, B> as Rising>::rises();
     }
 }
 

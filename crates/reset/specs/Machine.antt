@@ -1,11 +1,12 @@
 -- The reset button's machine, arrow by arrow, over its plain fields.
-use mathlib.Core.Bool.{Bool, true, false, _&&_, _||_, not, cond}
+use mathlib.Core.Bool.{Bool, true, false, _||_, cond}
 use Prim.Native.Nat.{ℕ, _+_}
 use lib.Dec.{ltb}
 use Rattle.block.specs.declared.code.Code.{Code}
 use Rattle.block.specs.declared.code.Code.the-variants as code
 use Rattle.block.specs.declared.times.Times.{Times}
 use Rattle.block.specs.Codes.{number-of, error-of}
+use Rattle.block.specs.Runs.{rise}
 use Rattle.reset.specs.declared.fields.ButtonFields.{ButtonFields}
 use Rattle.reset.specs.declared.fields.ButtonState.{ButtonState}
 use Rattle.reset.specs.declared.fields.ButtonState.the-variants.{Idle, WaitForRise, WaitForFall, Pulse, StuckOn, TooLong, TooShort}
@@ -23,10 +24,7 @@ entering f s = record { state = s; time = 0; min = f .min; max = f .max }
 abbrev pub lasting : ButtonFields → ℕ → ButtonFields
 lasting f t = record { state = f .state; time = t; min = f .min; max = f .max }
 
-abbrev pub rises : ResetInput → Bool
-rises i = i .now && not (i .before)
-
--- 83F2 at a press or a fall: over max gives C3E0; then a fall gives C3F0 under min, else 8000; otherwise it stays
+-- a pressed button, or one that falls: too long, still pressed, too short, or a pulse
 abbrev pub pressed-next : ButtonFields → ResetInput → ButtonFields
 pressed-next f i =
     cond (ltb (f .max) (f .time + i .elapsed)) (entering f TooLong)
@@ -35,21 +33,21 @@ pressed-next f i =
 
 -- a requested button
 abbrev pub requested-next : ButtonState → ButtonFields → ResetInput → ButtonFields
--- 0000: to C001 if now is on, else to 83E2
+-- out of 0000: on already is a fault
 requested-next Idle f i = cond (i .now) (entering f StuckOn) (entering f WaitForRise)
--- 83E2: to 83F2 if now is on
+-- out of 83E2: by the level, not by a rise
 requested-next WaitForRise f i = cond (i .now) (entering f WaitForFall) f
--- 83F2: to 83E2 if off both now and before
+-- out of 83F2: a button that was not seen on any more is not pressed
 requested-next WaitForFall f i = cond (i .now || i .before) (pressed-next f i) (entering f WaitForRise)
--- 8000: to 83E2
+-- the pulse lasts one step
 requested-next Pulse f i = entering f WaitForRise
--- C001: to 83E2 if now is off
+-- C001 leaves once the button is off
 requested-next StuckOn f i = cond (i .now) f (entering f WaitForRise)
--- C3E0 and C3F0: to 83F2 at a rise
-requested-next TooLong f i = cond (rises i) (entering f WaitForFall) f
-requested-next TooShort f i = cond (rises i) (entering f WaitForFall) f
+-- C3E0 and C3F0 leave at a new press
+requested-next TooLong f i = cond (rise (i .now) (i .before)) (entering f WaitForFall) f
+requested-next TooShort f i = cond (rise (i .now) (i .before)) (entering f WaitForFall) f
 
--- not requested: to 0000 from every state
+-- without a request it rests in 0000
 abbrev pub button-next : ButtonFields → ResetInput → ButtonFields
 button-next f i = cond (i .requested) (requested-next (f .state) f i) (entering f Idle)
 

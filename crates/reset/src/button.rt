@@ -1,5 +1,5 @@
 // The reset button's record, whose limits hold in every value.
-// No file of specs/ that names the record is imported here.
+// A file of specs/ that names the record imports this one, so none is imported here.
 ghost use mathlib.Core.Path.{_≡_};
 ghost use mathlib.Core.Bool.{true};
 ghost use Rattle.reset.specs.Limits.{button-allowed};

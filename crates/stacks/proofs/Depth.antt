@@ -2,7 +2,6 @@
 use borrow.Author.Needs.{needs}
 use Rattle.block.specs.Laws.{Laws}
 use Rattle.block.specs.Rises.{Rises}
-use Rattle.button.specs.Button.{buttoned}
 use Rattle.button.proofs.Laws.{button-steps}
 use Rattle.button.proofs.Press.{button-comes-on}
 use Rattle.button.proofs.Relations.{button-relations}
@@ -34,5 +33,5 @@ stands s =
       rises = keeps .1;
       layers = layers s;
       button-laws = record { steps = button-steps (stacked s) (keeps .0 .steps); comes-on = button-comes-on (stacked s) (keeps .0 .steps) (keeps .1) };
-      button = button-relations (stacked s);
+      button = button-relations (stacked s) (keeps .0 .steps);
     }

@@ -1,11 +1,6 @@
 // The walk-throughs.
 use crate::Buttons;
 use crate::Panels;
-use crate::clear;
-use crate::pressed;
-use crate::setup;
-use crate::stopped;
-use crate::word;
 use block::Block;
 use block::Code;
 use block::CodePartialEq;
@@ -16,6 +11,7 @@ use block::ModePartialEq;
 use block::Settings;
 use block::Setup;
 use block::Times;
+use block::Word;
 use button::Button;
 use button::ButtonBlock;
 use catalogue::Catalogue;
@@ -30,6 +26,55 @@ use group::GroupRising;
 use reset::ButtonFields;
 use reset::ButtonState;
 use std::test::*;
+
+// What a row with these settings is made from, under a press of 350 to 2,000 milliseconds.
+fn setup(kind: Kind, start: bool, auto: bool) -> Option<Setup> {
+    let settings = Settings::new(kind, start, auto)?;
+    let times = Times::new(350, 2000)?;
+    Some(Setup { settings, times })
+}
+
+fn word(pin0: bool, pin1: bool, pin2: bool, pin3: bool) -> Word {
+    Word {
+        pin0,
+        pin1,
+        pin2,
+        pin3,
+    }
+}
+
+// An active step with all pins on.
+fn clear(now: bool, before: bool, elapsed: u16) -> Input {
+    Input {
+        active: true,
+        word: word(true, true, true, true),
+        now,
+        before,
+        elapsed,
+    }
+}
+
+// An active step with no pin on and the reset off.
+fn stopped(before: bool) -> Input {
+    Input {
+        active: true,
+        word: word(false, false, false, false),
+        now: false,
+        before,
+        elapsed: 10,
+    }
+}
+
+// From power-up to the end of one press: seen on once more after `held` milliseconds, and off after `rest` more.
+fn pressed<B: Block>(block: B, held: u16, rest: u16) -> B {
+    block
+        .step(clear(false, true, 10))
+        .step(clear(false, false, 10))
+        .step(clear(false, false, 10))
+        .step(clear(true, false, 10))
+        .step(clear(true, true, held))
+        .step(clear(false, true, rest))
+}
 
 fn estop(start: bool, auto: bool) -> Result<Setup, Fail> {
     match setup(Kind::Estop, start, auto) {

@@ -4,11 +4,16 @@ ghost use Rattle.block.specs.Made.{Times-made};
 ghost use Rattle.block.specs.Limits.{times-allowed};
 use super::Times;
 
-// Whether two times keep the limits: 100 to 60,000 milliseconds, min at most max.
+// The limits of a press, in milliseconds.
+pub const SHORTEST_PRESS: u16 = 100;
+
+pub const LONGEST_PRESS: u16 = 60000;
+
+// Whether min is at most max, and both are within the limits of a press.
 pub fn are_times_allowed(min: u16, max: u16) -> bool
     ensures { λ r. ⌜ r ≡ times-allowed min max ⌝ }
 {
-    100 <= min && min <= max && max <= 60000
+    SHORTEST_PRESS <= min && min <= max && max <= LONGEST_PRESS
 }
 
 impl Times {

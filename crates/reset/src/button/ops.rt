@@ -1,9 +1,8 @@
 // Making, stepping and reading the reset button.
 ghost use mathlib.Core.Path.{_≡_};
-ghost use mathlib.Core.Bool.{true};
+ghost use mathlib.Core.Bool.{false};
 ghost use Rattle.block.specs.Codes.{number-of};
-ghost use Rattle.block.specs.Limits.{times-allowed};
-ghost use Rattle.reset.specs.Limits.{button-allowed, read-back, parameter-error};
+ghost use Rattle.reset.specs.Limits.{button-allowed, read-back, parameter-error, parameter-error-due};
 ghost use Rattle.reset.specs.Machine.{made-button, button-next, requested-next, pressed-next, entering, button-code, is-pulse};
 ghost use Rattle.reset.specs.Plain.{plain};
 use super::ResetButton;
@@ -13,6 +12,8 @@ use crate::fields::ButtonStatePartialEq;
 use crate::fields::ResetInput;
 use block::Code;
 use block::Times;
+use block::times::ops::LONGEST_PRESS;
+use block::times::ops::SHORTEST_PRESS;
 use block::times::ops::are_times_allowed;
 
 // Whether plain fields keep the limits of the record.
@@ -50,8 +51,8 @@ impl ResetButton {
             ResetButton {
                 state: ButtonState::Idle,
                 time: 0,
-                min: 100,
-                max: 60000,
+                min: SHORTEST_PRESS,
+                max: LONGEST_PRESS,
             }
         }
     }
@@ -67,11 +68,11 @@ impl ResetButton {
         }
     }
 
-    // The code; the times keep their limits in every value, so the parameter error never shows.
+    // The code. The parameter error is never due, since every value keeps the limits of its times, and never shows.
     pub fn code(&self) -> Code
         ensures code { λ r. ⌜ r ≡ button-code (now (self .entry) .state) ⌝ }
-        ensures limits { λ _. ⌜ times-allowed (now (self .entry) .min) (now (self .entry) .max) ≡ true ⌝ }
-        ensures no_parameter_error { λ r. ⌜ (number-of r ≡ parameter-error → ⊥) ⌝ }
+        ensures never_due { λ _. ⌜ parameter-error-due (now (self .entry) .min) (now (self .entry) .max) ≡ false ⌝ }
+        ensures never_shown { λ r. ⌜ (number-of r ≡ parameter-error → ⊥) ⌝ }
     {
         self.state.code()
     }
