@@ -1,1 +1,12 @@
+pub mod Due
+pub mod Each
+pub mod Forms
 pub mod Handed
+pub mod Lawful
+pub mod Many
+pub mod Only
+pub mod Rows
+pub mod Same
+pub mod Tables
+pub mod Wired
+pub mod Wires

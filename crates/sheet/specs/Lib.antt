@@ -2,4 +2,10 @@ pub mod Faults
 pub mod Form
 pub mod Limits
 pub mod Lines
+pub mod Loads
 pub mod Reading
+pub mod Sheet
+pub mod Steps
+pub mod Tables
+pub mod Wired
+pub mod Wires

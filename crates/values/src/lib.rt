@@ -12,6 +12,7 @@ pub use source::Source;
 pub use source::SourcePartialEq;
 pub use sources::parse_pins;
 pub use sources::parse_reset;
+pub use sources::parse_row;
 pub use sources::parse_source;
 pub use words::parse_flag;
 pub use words::parse_kind;

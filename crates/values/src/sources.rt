@@ -1,6 +1,6 @@
 // Sources: `0`, `1`, `iNN` or `rNN`; four of them with commas; a reset's terminal.
 ghost use Rattle.values.specs.Parsed.{Parsed};
-ghost use Rattle.values.specs.Written.{source-text, pins-text, reset-text, Short, Four-short, Short-reset};
+ghost use Rattle.values.specs.Written.{source-text, row-text, pins-text, reset-text, Two-digits, Short, Four-short, Short-reset};
 use crate::cut::cut_once;
 use crate::numbers::parse_pair;
 use crate::source::Source;
@@ -28,6 +28,16 @@ pub fn parse_pins(s: &[u8]) -> Option<[Source; 4]>
     let third = parse_source(c)?;
     let fourth = parse_source(d)?;
     Some([first, second, third, fourth])
+}
+
+// `rNN`.
+pub fn parse_row(s: &[u8]) -> Option<u8>
+    ensures { λ r. ⌜ Parsed Two-digits row-text (now (s .entry)) r ⌝ }
+{
+    match s {
+        [b'r', a, b] => Some(parse_pair(*a, *b)?),
+        _ => None,
+    }
 }
 
 // A terminal, or `-` for none.
