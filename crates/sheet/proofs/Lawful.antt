@@ -72,7 +72,16 @@ row-lawful taken k r l known h =
     let both = flags (has-restart (r .settings .kind)) (r .settings .start) (r .settings .auto) (r .settings .allowed) in
     let short = each-wired k Short (λ s w. source-short s (source-within k s l w)) (r .pins) (c .1) in
     let within = each-wired k Within (λ s w. source-within k s l w) (r .pins) (c .1) in
-    let earlier = each-wired k (Earlier k) (source-earlier k) (r .pins) (c .1) in
-    (known, tt, (source-short (r .act) act, (act, (source-earlier k (r .act) (a .0), tt)),
-      ((eqb-true (length (r .pins)) pin-count (c .0), short), (within, (earlier, tt)),
-        (reset-short (r .reset) reset, (reset, tt), (tt, (both .0, tt), (tt, (both .1, tt), refl))))))
+    let earlier = each-wired k (Earlier k) (source-earlier k) (r .pins) (c .1) in (
+      known,
+      tt,
+      (
+        source-short (r .act) act,
+        (act, (source-earlier k (r .act) (a .0), tt)),
+        (
+          (eqb-true (length (r .pins)) pin-count (c .0), short),
+          (within, (earlier, tt)),
+          (reset-short (r .reset) reset, (reset, tt), (tt, (both .0, tt), (tt, (both .1, tt), refl))),
+        ),
+      ),
+    )

@@ -21,9 +21,9 @@ module _ {X : Type 0} (x : X) (f : ℕ → Form X) where
       let front : take n all ≡ xs = take-at xs (y ∷ []) n e in
       let last : getD all n x ≡ y = getD-at xs y [] x n e in
       let end : Accepted (done (xs ++ getD all n x ∷ [])) all r r =
-          record { lawful = ap (λ z. xs ++ z ∷ []) last; left = refl; ended = g .ended; line = omega arith } in
+      record { lawful = ap (λ z. xs ++ z ∷ []) last; left = refl; ended = g .ended; line = omega arith } in
       let one : Accepted (with-last n xs) all q r =
-          then-accepted (λ ys. getD ys n x) (λ z. done (xs ++ z ∷ [])) (f n) all q r r (subst (λ z. Accepted (f n) z q r) (sym last) g) end in
+      then-accepted (λ ys. getD ys n x) (λ z. done (xs ++ z ∷ [])) (f n) all q r r (subst (λ z. Accepted (f n) z q r) (sym last) g) end in
       then-accepted (take n) (with-last n) (many x f n) all p q r (subst (λ z. Accepted (many x f n) z p q) (sym front) h) (subst (λ z. Accepted (with-last n z) all q r) (sym front) one)
 
   many-on : (more n m : ℕ) (p : Place) (g : WiringFault) → more + n ≡ m → Refuses (many x f n) p g → Refuses (many x f m) p g
@@ -36,7 +36,7 @@ module _ {X : Type 0} (x : X) (f : ℕ → Form X) where
   pub many-refused : (n all : ℕ) (xs : List X) (p q : Place) (g : WiringFault) → n < all → Accepted (many x f n) xs p q → Refuses (f n) q g → Refuses (many x f all) p g
   many-refused n all xs p q g l h r =
       many-on (all - suc n) (suc n) all p g (omega arith)
-        (refuses-right (take n) (with-last n) (many x f n) xs p q g h (refuses-left (λ ys. getD ys n x) (λ z. done (xs ++ z ∷ [])) (f n) q g r))
+      (refuses-right (take n) (with-last n) (many x f n) xs p q g h (refuses-left (λ ys. getD ys n x) (λ z. done (xs ++ z ∷ [])) (f n) q g r))
 
   -- a list is lawful if each of its elements is, at its place
   pub many-lawful : (n : ℕ) (xs : List X) → length xs ≡ n → ((k : ℕ) → k < n → Lawful (f k) (getD xs k x)) → Lawful (many x f n) xs

@@ -111,4 +111,4 @@ same-reading (line d of next) a b p q r u h g =
     let value = took-value d (u .0) p (of b) (of a) (after d of next b p r) (after d of next a p q) t s in
     let place = took-place d (u .0) p (of b) (of a) (after d of next b p r) (after d of next a p q) t s in
     same-reading (next (of a)) a b (after d of next a p q) q r (u .1 (of a)) (accepted-rest d of next a p q h)
-      (subst (λ v. Accepted (next v) b (after d of next a p q) r) value (subst (λ z. Accepted (next (of b)) b z r) place (accepted-rest d of next b p r g)))
+    (subst (λ v. Accepted (next v) b (after d of next a p q) r) value (subst (λ z. Accepted (next (of b)) b z r) place (accepted-rest d of next b p r g)))

@@ -41,9 +41,9 @@ wired-from k r a b c =
     let four = eqb (length (r .pins)) pin-count in
     let pins = all-pass (source-wired k) (r .pins) in
     and-from (source-wired k (r .act)) ((four && pins) && reset-wired (r .reset)) (source-on k (r .act) (a .keeps .0) (a .keeps .1 .0))
-      (and-from (four && pins) (reset-wired (r .reset))
-        (and-from four pins (eq-eqb (length (r .pins)) pin-count (b .plain .0)) (sources-on k (r .pins) (b .keeps .0) (b .keeps .1 .0)))
-        (reset-on (r .reset) (c .keeps .0)))
+    (and-from (four && pins) (reset-wired (r .reset))
+    (and-from four pins (eq-eqb (length (r .pins)) pin-count (b .plain .0)) (sources-on k (r .pins) (b .keeps .0) (b .keeps .1 .0)))
+    (reset-on (r .reset) (c .keeps .0)))
 
 -- its lines, one after the other
 module _ (taken : Kind → Bool) (k : ℕ) (s : Said-row) (p0 p1 p2 p3 p4 p5 p6 : Place) where
@@ -51,4 +51,4 @@ module _ (taken : Kind → Bool) (k : ℕ) (s : Said-row) (p0 p1 p2 p3 p4 p5 p6 
       → Took (flag-due (codes "start=") (s .kind)) (s .start) p4 p5 → Took (flag-due (codes "auto=") (s .kind)) (s .auto) p5 p6 → Accepted (row-form taken k) s p0 p6
   row-accepted a b c d e f =
       line-accepted _ _ _ s p0 p1 p6 a (line-accepted _ _ _ s p1 p2 p6 b (line-accepted _ _ _ s p2 p3 p6 c (line-accepted _ _ _ s p3 p4 p6 d (line-accepted _ _ _ s p4 p5 p6 e (line-accepted _ _ _ s p5 p6 p6 f
-        (done-accepted s p6 (next-left _ p5 p6 (f .next))))))))
+      (done-accepted s p6 (next-left _ p5 p6 (f .next))))))))

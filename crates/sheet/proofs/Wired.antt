@@ -6,10 +6,15 @@ use Prim.Native.Nat.{ℕ, zero, suc, _+_, _<_, _≤_}
 use native.Mathlib.Omega.{arith}
 use lib.Dec.{leb, ltb, eqb}
 use lib.ListN.{length, getD}
-use Rattle.std.proofs.shelf.Tests.{and-parts, and-from, leb-true, le-leb, eqb-true, eq-eqb}
+use Rattle.std.proofs.shelf.Tests.{and-parts, and-from, leb-true, le-leb, ltb-true, ltb-false, lt-ltb, eqb-true, eq-eqb, cond-both}
+use Rattle.std.specs.declared.option.Option.the-variants.{None}
+use Rattle.block.specs.declared.types.Kind.the-variants.{And}
+use Rattle.values.specs.declared.source.Source.the-variants.{Zero}
 use Rattle.sheet.specs.declared.row.Row.{Row}
 use Rattle.sheet.specs.Limits.{most-rows, most-outs}
-use Rattle.sheet.specs.Wired.{each-place, row-fits, out-fits, count-allowed, rows-allowed, outs-allowed, wiring-allowed}
+use Rattle.sheet.specs.Sheet.{Counts}
+use Rattle.sheet.specs.Tables.{Filled-rows, Filled-outs}
+use Rattle.sheet.specs.Wired.{each-place, row-fits, out-fits, row-wired, row-blank, count-allowed, rows-allowed, outs-allowed, wiring-allowed}
 
 module _ {X : Type 0} (test : ℕ → X → Bool) (x : X) where
   pub each-place-at : (k : ℕ) (xs : List X) → each-place test k xs ≡ true → (i n : ℕ) → k + i ≡ n → i < length xs → test n (getD xs i x) ≡ true
@@ -39,7 +44,9 @@ module _ {X : Type 0} (most : ℕ) (test : ℕ → X → Bool) (n : ℕ) (xs : L
       let c = and-parts (eqb (length xs) most) (each-place test 0 xs) (a .1) in
       let full = eqb-true (length xs) most (c .0) in
       record {
-        some = leb-true 1 n (b .0); few = leb-true n most (b .1); full = full;
+        some = leb-true 1 n (b .0);
+        few = leb-true n most (b .1);
+        full = full;
         fits = λ k x l. each-place-at test x 0 xs (c .1) k k (omega arith) (omega arith);
       }
 
@@ -47,9 +54,9 @@ module _ {X : Type 0} (most : ℕ) (test : ℕ → X → Bool) (n : ℕ) (xs : L
   from-table x t =
       let full = t .full in
       and-from (count-allowed most n) (eqb (length xs) most && each-place test 0 xs)
-        (and-from (leb 1 n) (leb n most) (le-leb 1 n (t .some)) (le-leb n most (t .few)))
-        (and-from (eqb (length xs) most) (each-place test 0 xs) (eq-eqb (length xs) most full)
-          (each-place-from test x 0 xs (λ i m e l. let same : i ≡ m = omega arith in subst (λ z. test z (getD xs i x) ≡ true) same (t .fits i x (omega arith)))))
+      (and-from (leb 1 n) (leb n most) (le-leb 1 n (t .some)) (le-leb n most (t .few)))
+      (and-from (eqb (length xs) most) (each-place test 0 xs) (eq-eqb (length xs) most full)
+      (each-place-from test x 0 xs (λ i m e l. let same : i ≡ m = omega arith in subst (λ z. test z (getD xs i x) ≡ true) same (t .fits i x (omega arith)))))
 
 abbrev pub Rows-table : ℕ → List Row → Type 0
 Rows-table count rows = Table most-rows (row-fits count) count rows
@@ -65,3 +72,29 @@ wiring-from count rows outputs outs h =
 pub from-tables : (count : ℕ) (rows : List Row) (outputs : ℕ) (outs : List ℕ) → Row → Rows-table count rows → Outs-table count outputs outs → wiring-allowed count rows outputs outs ≡ true
 from-tables count rows outputs outs x a b =
     and-from (rows-allowed count rows) (outs-allowed count outputs outs) (from-table most-rows (row-fits count) count rows x a) (from-table most-outs (out-fits count outputs) outputs outs 0 b)
+
+-- ---- from tables that were filled while lines were read
+
+pub rows-from-filled : (count : ℕ) (rows : List Row) → Counts most-rows count → Filled-rows count rows → Rows-table count rows
+rows-from-filled count rows n t = record {
+  some = n .0;
+  few = n .1;
+  full = t .full;
+  fits = λ k x l. cond-both (ltb k count) (row-wired k (getD rows k x)) (row-blank (getD rows k x)) (λ b. b ≡ true)
+      (λ on. t .good k x (ltb-true k count on)) (λ off. t .blank k x (ltb-false k count off) l);
+}
+
+pub outs-from-filled : (count outputs : ℕ) (outs : List ℕ) → Counts most-outs outputs → Filled-outs count outputs outs → Outs-table count outputs outs
+outs-from-filled count outputs outs n t = record {
+  some = n .0;
+  few = n .1;
+  full = t .full;
+  fits = λ o x l. cond-both (ltb o outputs) (ltb (getD outs o x) count) (eqb (getD outs o x) 0) (λ b. b ≡ true)
+      (λ on. lt-ltb (getD outs o x) count (t .good o x (ltb-true o outputs on))) (λ off. eq-eqb (getD outs o x) 0 (t .blank o x (ltb-false o outputs off) l));
+}
+
+pub any-row : Row
+any-row = record { settings = record { kind = And; start = false; auto = false; allowed = refl }; act = Zero; pins = []; reset = None }
+
+pub filled-allowed : (count : ℕ) (rows : List Row) (outputs : ℕ) (outs : List ℕ) → Counts most-rows count → Counts most-outs outputs → Filled-rows count rows → Filled-outs count outputs outs → wiring-allowed count rows outputs outs ≡ true
+filled-allowed count rows outputs outs n m a b = from-tables count rows outputs outs any-row (rows-from-filled count rows n a) (outs-from-filled count outputs outs m b)

@@ -1,13 +1,14 @@
 // The loader for wiring sheets: any bytes are read as the one wiring that they write, or refused.
 pub mod fault;
-pub mod limits;
+mod limits;
 pub mod load;
 pub mod reader;
 pub mod row;
-pub mod row_lines;
-pub mod text_lines;
+mod row_lines;
+mod text_lines;
+pub mod theorems;
 pub mod wiring;
-pub mod wiring_lines;
+mod wiring_lines;
 
 pub use fault::Layer;
 pub use fault::LayerPartialEq;
@@ -17,5 +18,9 @@ pub use fault::TextFault;
 pub use fault::TextFaultPartialEq;
 pub use fault::WiringFault;
 pub use fault::WiringFaultPartialEq;
+pub use load::load_sheet;
 pub use row::Row;
+pub use theorems::one_verdict;
+pub use theorems::one_wiring;
+pub use theorems::texts_are_short;
 pub use wiring::Wiring;

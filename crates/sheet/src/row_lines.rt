@@ -1,6 +1,7 @@
 // The due lines with what a row's settings and the times have to keep.
 ghost use Rattle.sheet.specs.Sheet.{known, count-due, time-due, kind-due, act-text-due, pins-text-due, reset-due, flag-due, out-text-due};
-ghost use Rattle.sheet.specs.Steps.{Row-step};
+ghost use Rattle.sheet.specs.Steps.{Row-step, Length-checked, End-checked};
+ghost use Rattle.sheet.specs.declared.fault.RowFault.the-variants.{Text};
 use crate::fault::RowFault;
 use crate::fault::RowFromText;
 use crate::limits::is_flag_allowed;
@@ -66,4 +67,16 @@ pub fn read_out(reader: &mut Reader) -> Result<u8, RowFault>
     ensures { λ r. ⌜ Row-step out-text-due (now (reader .entry)) (now (reader .exit)) r ⌝ }
 {
     Ok(text_lines::read_out(reader)?)
+}
+
+pub fn check_length(sheet: &[u8]) -> Result<(), RowFault>
+    ensures { λ r. ⌜ Length-checked Text (now (sheet .entry)) r ⌝ }
+{
+    Ok(text_lines::check_length(sheet)?)
+}
+
+pub fn check_end(reader: &Reader) -> Result<(), RowFault>
+    ensures { λ r. ⌜ End-checked Text (now (reader .entry)) r ⌝ }
+{
+    Ok(text_lines::check_end(reader)?)
 }

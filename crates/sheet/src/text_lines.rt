@@ -1,7 +1,7 @@
 // The due lines as text: each is absent or malformed, has a number outside its limit, or is read.
 ghost use lib.Chars.{codes};
 ghost use Rattle.sheet.specs.Sheet.{known, count-due, time-text-due, kind-due, act-text-due, pins-text-due, reset-due, flag-text-due, out-text-due};
-ghost use Rattle.sheet.specs.Steps.{Text-step};
+ghost use Rattle.sheet.specs.Steps.{Text-step, Length-checked, End-checked};
 use crate::fault::TextFault;
 use crate::limits::are_within;
 use crate::limits::is_count;
@@ -9,6 +9,7 @@ use crate::limits::is_known;
 use crate::limits::is_reset_within;
 use crate::limits::is_row;
 use crate::limits::is_time;
+use crate::limits::is_too_long;
 use crate::limits::is_within;
 use crate::reader::Reader;
 use block::Kind;
@@ -17,9 +18,9 @@ use values::parse_flag;
 use values::parse_kind;
 use values::parse_pins;
 use values::parse_reset;
+use values::parse_row;
 use values::parse_source;
 use values::parse_time;
-use values::parse_row;
 use values::parse_two;
 
 // `rows=` or `outs=`, from 01 to `most`.
@@ -124,4 +125,24 @@ pub fn read_out(reader: &mut Reader) -> Result<u8, TextFault>
         return Err(TextFault::Limit(part.line));
     }
     Ok(row)
+}
+
+// A sheet that is not too long.
+pub fn check_length(sheet: &[u8]) -> Result<(), TextFault>
+    ensures { λ r. ⌜ Length-checked (λ f. f) (now (sheet .entry)) r ⌝ }
+{
+    if is_too_long(sheet) {
+        return Err(TextFault::TooLong);
+    }
+    Ok(())
+}
+
+// Nothing follows the last line.
+pub fn check_end(reader: &Reader) -> Result<(), TextFault>
+    ensures { λ r. ⌜ End-checked (λ f. f) (now (reader .entry)) r ⌝ }
+{
+    if !reader.is_done() {
+        return Err(TextFault::Trailing(reader.due_line()));
+    }
+    Ok(())
 }

@@ -9,7 +9,13 @@ use block::Times;
 
 impl Wiring {
     // The tables of a sheet that keeps the rules.
-    pub(crate) fn new(times: Times, count: u8, rows: [Row; 32], outputs: u8, outs: [u8; 16]) -> Wiring
+    pub(crate) fn new(
+        times: Times,
+        count: u8,
+        rows: [Row; 32],
+        outputs: u8,
+        outs: [u8; 16],
+    ) -> Wiring
         requires { ⌜ wiring-allowed count rows outputs outs ≡ true ⌝ }
         ensures { λ r. ⌜ Made-of times count rows outputs outs r ⌝ }
     {

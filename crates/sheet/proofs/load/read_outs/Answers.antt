@@ -22,4 +22,4 @@ returns-in-Break-outs c =
     let p = err-from-errBy (c .from-residual .result) (c .from-residual .ensures .1) in
     let o = c .loop-o .o in
     rw (p .1, p .2)
-      (many-refused 0 (out-form (c .args .count)) o (c .args .outputs) (take o (c .loop-o .outs)) (at (c .args .reader .now)) (at (c .loop-o .reader)) (c .in-Break-outs .field-0 .0) (omega arith) (c .loop-o .inv .lines) (inl (c .in-Break-outs .ensures tt)))
+    (many-refused 0 (out-form (c .args .count)) o (c .args .outputs) (take o (c .loop-o .outs)) (at (c .args .reader .now)) (at (c .loop-o .reader)) (c .in-Break-outs .field-0 .0) (omega arith) (c .loop-o .inv .lines) (inl (c .in-Break-outs .ensures tt)))

@@ -41,7 +41,7 @@ returns c =
     let p6 = at (c .read-flag-2 .last .reader) in
     let e = c .allowed-settings-settings .ensures in
     let lines = row-accepted known k s p0 (at (c .read-kind .last .reader)) (at (c .read-act .last .reader)) (at (c .read-pins .last .reader)) (at (c .read-reset .last .reader)) (at (c .read-flag .last .reader)) p6
-          (c .in-Continue-kind .ensures tt) (c .in-Continue-act .ensures tt) (c .in-Continue-pins .ensures tt) (c .in-Continue-reset .ensures tt) (c .in-Continue-start .ensures tt) (c .in-Continue-auto .ensures tt) in
+    (c .in-Continue-kind .ensures tt) (c .in-Continue-act .ensures tt) (c .in-Continue-pins .ensures tt) (c .in-Continue-reset .ensures tt) (c .in-Continue-start .ensures tt) (c .in-Continue-auto .ensures tt) in
     record {
       lines = subst (λ z. Accepted (row-form known k) z p0 p6) (λ i. record { kind = sym (e .0) i; act = s .act; pins = s .pins; reset = s .reset; start = sym (e .1) i; auto = sym (e .2) i }) lines;
       wired = wired-from k (record { settings = c .allowed-settings-settings .result; act = s .act; pins = s .pins; reset = s .reset }) (c .in-Continue-act .ensures tt) (c .in-Continue-pins .ensures tt) (c .in-Continue-reset .ensures tt);

@@ -23,4 +23,4 @@ returns-in-Break-rows c =
     let p = err-from-errBy (c .from-residual .result) (c .from-residual .ensures .1) in
     let k = c .loop-k .k in
     rw (p .1, p .2)
-      (many-refused no-row (row-form known) k (c .args .count) (map row-said (take k (c .loop-k .rows))) (at (c .args .reader .now)) (at (c .loop-k .reader)) (c .in-Break-rows .field-0 .0) (omega arith) (c .loop-k .inv .lines) (c .in-Break-rows .ensures tt))
+    (many-refused no-row (row-form known) k (c .args .count) (map row-said (take k (c .loop-k .rows))) (at (c .args .reader .now)) (at (c .loop-k .reader)) (c .in-Break-rows .field-0 .0) (omega arith) (c .loop-k .inv .lines) (c .in-Break-rows .ensures tt))
