@@ -1,77 +1,47 @@
 -- No line of a sheet has a line feed in it, so that its text is cut into its lines again.
 use mathlib.Core.Path.{_≡_, refl, sym, ap, _∙_}
-use mathlib.Core.Bool.{Bool}
+use mathlib.Core.Bool.{Bool, true}
 use mathlib.Core.List.{List, [], _∷_, _++_, append-assoc}
-use Prim.Native.Nat.{ℕ, zero, suc}
+use Prim.Native.Nat.{ℕ}
 use native.Mathlib.Omega.{arith}
 use lib.Chars.{codes}
-use lib.ListN.{take, getD}
 use Rattle.block.specs.declared.types.Kind.{Kind}
 use Rattle.values.specs.Cut.{join-at}
 use Rattle.values.specs.Written.{Each}
 use Rattle.values.proofs.Clear.{two-clear, time-clear, source-clear, pins-clear, reset-clear, kind-clear, flag-clear}
 use Rattle.values.proofs.Cutting.{cut-cons}
-use Rattle.values.proofs.Glue.{Clear, clear-append, clear-from, cut-piece, join-cut}
-use Rattle.sheet.specs.Form.{Form, done, line, and-then, many, lines-of, Lawful, Some-left}
+use Rattle.values.proofs.Glue.{Clear, clear-append, clear-test, clear-from, cut-piece, join-cut}
+use Rattle.sheet.specs.Form.{Due, Form, done, line, lines-of, Lawful, Some-left, Every}
 use Rattle.sheet.specs.Lines.{pieces, flat}
-use Rattle.sheet.specs.Sheet.{Said, row-form, out-form, no-row, sheet-form}
+use Rattle.sheet.specs.Sheet.{Said, sheet-form}
+use Rattle.sheet.proofs.Every.{every-sheet}
 use Rattle.sheet.proofs.Forms.{left-append}
 
-abbrev Clean : {A : Type 0} → Form A → Type 0
-Clean (done a) = Unit {0}
-Clean (line {V} d of next) = Clear 10 (d .key) × ((v : V) → d .plain v → Clear 10 (d .body v)) × ((v : V) → Clean (next v))
+abbrev Clean : (V : Type 0) → Due V → Type 0
+Clean V d = Clear 10 (d .key) × ((v : V) → d .plain v → Clear 10 (d .body v))
 
-clean-then : {A B : Type 0} (f : Form A) (part : B → A) (next : A → Form B) → Clean f → ((a : A) → Clean (next a)) → Clean (and-then f part next)
-clean-then (done a) part next u h = h a
-clean-then (line d of more) part next u h = (u .0, u .1, λ v. clean-then (more v) part next (u .2 v) h)
-
-clean-many : {X : Type 0} (x : X) (f : ℕ → Form X) → ((k : ℕ) → Clean (f k)) → (n : ℕ) → Clean (many x f n)
-clean-many x f u zero = tt
-clean-many x f u (suc n) =
-    clean-then (many x f n) (take n) (λ xs. and-then (f n) (λ ys. getD ys n x) (λ y. done (xs ++ y ∷ []))) (clean-many x f u n) (λ xs. clean-then (f n) (λ ys. getD ys n x) (λ y. done (xs ++ y ∷ [])) (u n) (λ y. tt))
-
-clean-lines : {A : Type 0} (f : Form A) (a : A) → Clean f → Lawful f a → Each (Clear 10) (lines-of f a)
+clean-lines : {A : Type 0} (f : Form A) (a : A) → Every Clean f → Lawful f a → Each (Clear 10) (lines-of f a)
 clean-lines (done b) a u h = tt
-clean-lines (line d of next) a u h = (clear-append 10 (d .key) (d .body (of a)) (u .0) (u .1 (of a) (h .0)), clean-lines (next (of a)) a (u .2 (of a)) (h .2))
+clean-lines (line d of next) a u h = (clear-append 10 (d .key) (d .body (of a)) (u .0 .0) (u .0 .1 (of a) (h .0)), clean-lines (next (of a)) a (u .1 (of a)) (h .2))
 
-clean-row : (taken : Kind → Bool) (k : ℕ) → Clean (row-form taken k)
-clean-row taken k = (
-  clear-from 10 (codes "kind=") refl,
-  λ v p. kind-clear v,
-  λ kind. (
-    clear-from 10 (codes "act=") refl,
-    λ v p. source-clear 10 v (omega arith),
-    λ act. (
-      clear-from 10 (codes "pins=") refl,
-      λ v p. pins-clear 10 v (omega arith),
-      λ pins.
-          (clear-from 10 (codes "reset=") refl, λ v p. reset-clear v, λ reset. (clear-from 10 (codes "start=") refl, λ v p. flag-clear v, λ start. (clear-from 10 (codes "auto=") refl, λ v p. flag-clear v, λ auto. tt))),
-    ),
-  ),
-)
+-- a key that is written out
+key : (k : List ℕ) → clear-test 10 k ≡ true → Clear 10 k
+key k h = clear-from 10 k h
 
-clean-sheet : (taken : Kind → Bool) → Clean (sheet-form taken)
-clean-sheet taken = (
-  clear-from 10 (codes "rows=") refl,
-  λ v p. two-clear 10 v (omega arith),
-  λ count. (
-    clear-from 10 (codes "outs=") refl,
-    λ v p. two-clear 10 v (omega arith),
-    λ outputs. (
-      clear-from 10 (codes "min=") refl,
-      λ v p. time-clear 10 v (omega arith) p,
-      λ min. (
-        clear-from 10 (codes "max=") refl,
-        λ v p. time-clear 10 v (omega arith) p,
-        λ max.
-            clean-then (many no-row (row-form taken) count) (λ s. s .rows) (λ rows. and-then (many 0 (out-form count) outputs) (λ s. s .outs) (λ outs. done (record { count = count; outputs = outputs; min = min; max = max; rows = rows; outs = outs })))
-            (clean-many no-row (row-form taken) (clean-row taken) count)
-            (λ rows. clean-then (many 0 (out-form count) outputs) (λ s. s .outs) (λ outs. done (record { count = count; outputs = outputs; min = min; max = max; rows = rows; outs = outs }))
-            (clean-many 0 (out-form count) (λ o. (clear-from 10 (codes "out=") refl, λ v p. (λ e. omega arith, two-clear 10 v (omega arith)), λ n. tt)) outputs) (λ outs. tt)),
-      ),
-    ),
-  ),
-)
+clean-sheet : (taken : Kind → Bool) → Every Clean (sheet-form taken)
+clean-sheet taken = every-sheet Clean taken (record {
+  rows = (key (codes "rows=") refl, λ v p. two-clear 10 v (omega arith));
+  outs = (key (codes "outs=") refl, λ v p. two-clear 10 v (omega arith));
+  min = (key (codes "min=") refl, λ v p. time-clear 10 v (omega arith) p);
+  max = λ low. (key (codes "max=") refl, λ v p. time-clear 10 v (omega arith) p);
+  kind = (key (codes "kind=") refl, λ v p. kind-clear v);
+  act = λ k. (key (codes "act=") refl, λ v p. source-clear 10 v (omega arith));
+  pins = λ k. (key (codes "pins=") refl, λ v p. pins-clear 10 v (omega arith));
+  reset = (key (codes "reset=") refl, λ v p. reset-clear v);
+  start = λ kind. (key (codes "start=") refl, λ v p. flag-clear v);
+  auto = λ kind. (key (codes "auto=") refl, λ v p. flag-clear v);
+  out = λ count. (key (codes "out=") refl, λ v p. (λ e. omega arith, two-clear 10 v (omega arith)));
+})
 
 -- the pieces of lines that have no line feed in them
 pieces-flat : (ls : List (List ℕ)) (rest : List ℕ) → Each (Clear 10) ls → pieces (flat ls ++ rest) ≡ ls ++ pieces rest

@@ -1,6 +1,7 @@
 pub mod Clean
 pub mod Due
 pub mod Each
+pub mod Every
 pub mod Forms
 pub mod Handed
 pub mod Head

@@ -1,21 +1,20 @@
 -- A form reads lines in one way only, and gives them one fault at most.
 use mathlib.Core.Path.{_≡_, refl, sym, ap, subst, _∙_}
 use mathlib.Core.Logic.{_⊎_, inl, inr}
-use mathlib.Core.List.{List, [], _∷_, _++_}
-use Prim.Native.Nat.{ℕ, zero, suc, _+_}
+use mathlib.Core.List.{List, [], _∷_}
+use Prim.Native.Nat.{ℕ, _+_}
 use native.Mathlib.Omega.{arith}
-use lib.ListN.{take, getD}
 use Rattle.std.proofs.shelf.Lists.{append-cancel-left}
 use Rattle.std.specs.declared.option.Option.{Option}
 use Rattle.std.specs.declared.option.Option.the-variants.{Some}
 use Rattle.sheet.specs.declared.fault.WiringFault.{WiringFault}
-use Rattle.sheet.specs.Form.{Asked, Due, Rule, Form, done, line, and-then, many, written, fault-at, Reads, Keeps, First-broken, Faulty, Bad, Took, Accepted, Refuses}
+use Rattle.sheet.specs.Form.{Asked, Due, Rule, Form, done, line, fault-at, Reads, Keeps, First-broken, Faulty, Bad, Took, Accepted, Refuses, Every}
 use Rattle.sheet.specs.Lines.{Place, due}
 use Rattle.sheet.proofs.Forms.{place-same, after, accepted-took, accepted-rest}
 
 -- a line's bytes after its key write one value
-abbrev pub Unique : {V : Type 0} → Due V → Type 0
-Unique {V} d = (v w : V) → d .plain v → d .plain w → d .body v ≡ d .body w → v ≡ w
+abbrev pub Unique : (V : Type 0) → Due V → Type 0
+Unique V d = (v w : V) → d .plain v → d .plain w → d .body v ≡ d .body w → v ≡ w
 
 keeps-all : {V : Type 0} (xs : List (Asked V)) (v : V) (q : Rule) → Keeps xs v → First-broken xs v q → ⊥
 keeps-all [] v q k b = b
@@ -35,7 +34,7 @@ some-same p q = cc
 tails : {l m : List ℕ} {ls ms k : List (List ℕ)} → k ≡ l ∷ ls → k ≡ m ∷ ms → ls ≡ ms
 tails p q = cc
 
-module _ {V : Type 0} (d : Due V) (u : Unique d) where
+module _ {V : Type 0} (d : Due V) (u : Unique V d) where
   same-value : (l : Option (List ℕ)) (v w : V) → Reads d l v → Reads d l w → v ≡ w
   same-value l v w a b = u v w (a .1) (b .1) (append-cancel-left (d .key) (d .body v) (d .body w) (some-same (a .0) (b .0)))
 
@@ -63,21 +62,7 @@ module _ {V : Type 0} (d : Due V) (u : Unique d) where
     same-bad : (f g : WiringFault) → Bad d p f → Bad d p g → f ≡ g
     same-bad f g a b = a .fault ∙ ap (λ q. fault-at q (p .line + 1)) (same-faulty (a .rule) (b .rule) (a .faulty) (b .faulty)) ∙ sym (b .fault)
 
--- each line of a form has one value
-abbrev pub Unique-form : {A : Type 0} → Form A → Type 0
-Unique-form (done a) = Unit {0}
-Unique-form (line {V} d of next) = Unique d × ((v : V) → Unique-form (next v))
-
-pub unique-then : {A B : Type 0} (f : Form A) (part : B → A) (next : A → Form B) → Unique-form f → ((a : A) → Unique-form (next a)) → Unique-form (and-then f part next)
-unique-then (done a) part next u h = h a
-unique-then (line d of more) part next u h = (u .0, λ v. unique-then (more v) part next (u .1 v) h)
-
-pub unique-many : {X : Type 0} (x : X) (f : ℕ → Form X) → ((k : ℕ) → Unique-form (f k)) → (n : ℕ) → Unique-form (many x f n)
-unique-many x f u zero = tt
-unique-many x f u (suc n) =
-    unique-then (many x f n) (take n) (λ xs. and-then (f n) (λ ys. getD ys n x) (λ y. done (xs ++ y ∷ []))) (unique-many x f u n) (λ xs. unique-then (f n) (λ ys. getD ys n x) (λ y. done (xs ++ y ∷ [])) (u n) (λ y. tt))
-
-pub exclusive : {A : Type 0} (f : Form A) (a : A) (p q : Place) (g : WiringFault) → Unique-form f → Accepted f a p q → Refuses f p g → ⊥
+pub exclusive : {A : Type 0} (f : Form A) (a : A) (p q : Place) (g : WiringFault) → Every Unique f → Accepted f a p q → Refuses f p g → ⊥
 exclusive (done b) a p q g u h r = r
 exclusive (line d of next) a p q g u h (inl b) = not-faulty d (u .0) p (of a) (after d of next a p q) (b .rule) (accepted-took d of next a p q h) (b .faulty)
 exclusive (line d of next) a p q g u h (inr r) =
@@ -87,7 +72,7 @@ exclusive (line d of next) a p q g u h (inr r) =
     let place = took-place d (u .0) p (r .0) (of a) (r .1) m (r .2) t in
     exclusive (next (of a)) a m q g (u .1 (of a)) (accepted-rest d of next a p q h) (subst (λ v. Refuses (next v) m g) value (subst (λ z. Refuses (next (r .0)) z g) place (r .3)))
 
-pub same-fault : {A : Type 0} (f : Form A) (p : Place) (g h : WiringFault) → Unique-form f → Refuses f p g → Refuses f p h → g ≡ h
+pub same-fault : {A : Type 0} (f : Form A) (p : Place) (g h : WiringFault) → Every Unique f → Refuses f p g → Refuses f p h → g ≡ h
 same-fault (done b) p g h u a c = absurd a
 same-fault (line d of next) p g h u (inl a) (inl c) = same-bad d (u .0) p g h a c
 same-fault (line d of next) p g h u (inl a) (inr c) = absurd (not-faulty d (u .0) p (c .0) (c .1) (a .rule) (c .2) (a .faulty))
@@ -102,7 +87,7 @@ pub record Same-reading {A : Type 0} (a b : A) (q r : Place) : Type 0 where
   pub value : a ≡ b
   pub place : q ≡ r
 
-pub same-reading : {A : Type 0} (f : Form A) (a b : A) (p q r : Place) → Unique-form f → Accepted f a p q → Accepted f b p r → Same-reading a b q r
+pub same-reading : {A : Type 0} (f : Form A) (a b : A) (p q r : Place) → Every Unique f → Accepted f a p q → Accepted f b p r → Same-reading a b q r
 same-reading (done c) a b p q r u h g =
     record { value = sym (h .lawful) ∙ g .lawful; place = place-same (sym (h .left) ∙ g .left) (let x = h .line in let y = g .line in omega arith) }
 same-reading (line d of next) a b p q r u h g =

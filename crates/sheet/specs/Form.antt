@@ -105,6 +105,11 @@ abbrev pub Lawful : {A : Type 0} → Form A → A → Type 0
 Lawful (done b) a = b ≡ a
 Lawful (line d of next) a = d .plain (of a) × Keeps (d .asks) (of a) × Lawful (next (of a)) a
 
+-- what holds of every due line of a form
+abbrev pub Every : {A : Type 0} → ((V : Type 0) → Due V → Type 0) → Form A → Type 0
+Every P (done a) = Unit {0}
+Every P (line {V} d of next) = P V d × ((v : V) → Every P (next v))
+
 -- some piece is to come
 abbrev pub Some-left : List (List ℕ) → Type 0
 Some-left ls = (l : List ℕ) × (ms : List (List ℕ)) × (ls ≡ l ∷ ms)

@@ -3,6 +3,7 @@ pub mod Form
 pub mod Limits
 pub mod Lines
 pub mod Loads
+pub mod Order
 pub mod Reading
 pub mod Sheet
 pub mod Steps

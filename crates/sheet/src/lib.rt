@@ -22,5 +22,6 @@ pub use load::load_sheet;
 pub use row::Row;
 pub use theorems::one_verdict;
 pub use theorems::one_wiring;
+pub use theorems::rules_in_order;
 pub use theorems::texts_are_short;
 pub use wiring::Wiring;
