@@ -10,3 +10,4 @@ pub mod Steps
 pub mod Tables
 pub mod Wired
 pub mod Wires
+pub mod Words

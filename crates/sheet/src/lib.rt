@@ -9,6 +9,7 @@ mod text_lines;
 pub mod theorems;
 pub mod wiring;
 mod wiring_lines;
+pub mod words;
 
 pub use fault::Layer;
 pub use fault::LayerPartialEq;
@@ -25,3 +26,4 @@ pub use theorems::one_wiring;
 pub use theorems::rules_in_order;
 pub use theorems::texts_are_short;
 pub use wiring::Wiring;
+pub use words::WiringFaultDisplay;
