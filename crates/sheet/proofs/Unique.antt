@@ -41,13 +41,13 @@ pub rules-in-order : Rules-in-order
 rules-in-order taken = every-sheet In-order taken (record {
   rows = inl (refl, inl (refl, tt));
   outs = inl (refl, inl (refl, tt));
-  min = inl (refl, inl (refl, inr (inr (inl (refl, tt)))));
-  max = λ low. inl (refl, inl (refl, inr (inr (inl (refl, tt)))));
+  min = inl (refl, inl (refl, inr (inr (inr (inl (refl, tt))))));
+  max = λ low. inl (refl, inl (refl, inr (inr (inr (inl (refl, tt))))));
   kind = inl (refl, tt);
   act = λ k. inl (refl, inl (refl, inl (refl, tt)));
   pins = λ k. inl (refl, inl (refl, inl (refl, tt)));
   reset = inl (refl, inl (refl, tt));
-  start = λ kind. inl (refl, inr (inr (inl (refl, tt))));
-  auto = λ kind. inl (refl, inr (inr (inl (refl, tt))));
-  out = λ count. inl (refl, inl (refl, inl (refl, tt)));
+  start = λ kind. inl (refl, inr (inr (inr (inl (refl, tt)))));
+  auto = λ kind. inl (refl, inr (inr (inr (inl (refl, tt)))));
+  out = λ count. inl (refl, inl (refl, inr (inl (refl, tt))));
 })

@@ -7,7 +7,7 @@ use Rattle.sheet.specs.declared.fault.TextFault.the-variants.{TooLong, Malform
 use Rattle.sheet.specs.declared.fault.RowFault.{RowFault}
 use Rattle.sheet.specs.declared.fault.RowFault.the-variants.{Text, NotAllowed, BadTimes}
 use Rattle.sheet.specs.declared.fault.WiringFault.{WiringFault}
-use Rattle.sheet.specs.declared.fault.WiringFault.the-variants.{Row, NotEarlier}
+use Rattle.sheet.specs.declared.fault.WiringFault.the-variants.{Row, NotEarlier, NotOnSheet}
 
 -- what a refusal tells
 pub record Told : Type 0 where
@@ -29,3 +29,4 @@ row-told (BadTimes n) = record { number = 16; line = n; layer = layer.Row }
 abbrev pub wiring-told : WiringFault → Told
 wiring-told (Row f) = row-told f
 wiring-told (NotEarlier n) = record { number = 14; line = n; layer = layer.Wiring }
+wiring-told (NotOnSheet n) = record { number = 14; line = n; layer = layer.Wiring }

@@ -9,7 +9,7 @@ use Rattle.std.specs.declared.option.Option.the-variants.{Some}
 use Rattle.sheet.specs.declared.fault.TextFault.the-variants.{Malformed, Limit}
 use Rattle.sheet.specs.declared.fault.RowFault.the-variants.{Text, NotAllowed, BadTimes}
 use Rattle.sheet.specs.declared.fault.WiringFault.{WiringFault}
-use Rattle.sheet.specs.declared.fault.WiringFault.the-variants.{Row, NotEarlier}
+use Rattle.sheet.specs.declared.fault.WiringFault.the-variants.{Row, NotEarlier, NotOnSheet}
 use Rattle.sheet.specs.Lines.{Place, due, Next}
 
 -- what a due line can break
@@ -17,6 +17,7 @@ pub data Rule : Type 0 where
   malformed : Rule
   outside : Rule
   not-earlier : Rule
+  off-sheet : Rule
   not-allowed : Rule
   bad-times : Rule
 
@@ -25,6 +26,7 @@ abbrev pub fault-at : Rule → ℕ → WiringFault
 fault-at malformed n = Row (Text (Malformed n))
 fault-at outside n = Row (Text (Limit n))
 fault-at not-earlier n = NotEarlier n
+fault-at off-sheet n = NotOnSheet n
 fault-at not-allowed n = Row (NotAllowed n)
 fault-at bad-times n = Row (BadTimes n)
 

@@ -4,12 +4,12 @@ use mathlib.Core.Logic.{_⊎_}
 use mathlib.Core.Bool.{Bool}
 use mathlib.Core.List.{List, [], _∷_}
 use Rattle.block.specs.declared.types.Kind.{Kind}
-use Rattle.sheet.specs.Form.{Rule, malformed, outside, not-earlier, not-allowed, bad-times, Asked, Due, Every}
+use Rattle.sheet.specs.Form.{Rule, malformed, outside, not-earlier, off-sheet, not-allowed, bad-times, Asked, Due, Every}
 use Rattle.sheet.specs.Sheet.{sheet-form}
 
 -- the order of the rules
 abbrev pub order : List Rule
-order = malformed ∷ outside ∷ not-earlier ∷ not-allowed ∷ bad-times ∷ []
+order = malformed ∷ outside ∷ not-earlier ∷ off-sheet ∷ not-allowed ∷ bad-times ∷ []
 
 abbrev pub rules : {V : Type 0} → List (Asked V) → List Rule
 rules [] = []

@@ -13,7 +13,7 @@ use Rattle.block.specs.declared.types.Kind.the-variants.{And, Or, Estop}
 use Rattle.values.specs.declared.source.Source.{Source}
 use Rattle.values.specs.declared.source.Source.the-variants.{Zero, One, Terminal, Row}
 use Rattle.values.specs.Written.{Any, Two-digits, Five-digits, Short, Four-short, Short-reset, Each, two, row-text, source-text, pins-text, reset-text, kind-word, flag-text}
-use Rattle.sheet.specs.Form.{Due, Form, asked, asking, done, line, and-then, many, outside, not-earlier, not-allowed, bad-times}
+use Rattle.sheet.specs.Form.{Due, Form, asked, asking, done, line, and-then, many, outside, not-earlier, off-sheet, not-allowed, bad-times}
 use Rattle.sheet.specs.Limits.{most-rows, last-row, most-outs, last-terminal, least-time, most-time}
 
 -- what the lines of a row say
@@ -105,7 +105,7 @@ out-text-due = record { key = codes "out="; body = row-text; plain = Two-digits;
 
 -- `out=` on a sheet of so many rows
 abbrev pub out-due : ℕ → Due ℕ
-out-due count = asking out-text-due not-earlier (λ n. n < count)
+out-due count = asking out-text-due off-sheet (λ n. n < count)
 
 -- the lines of row k
 abbrev pub row-form : (Kind → Bool) → ℕ → Form Said-row

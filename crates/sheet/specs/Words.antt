@@ -10,7 +10,7 @@ use Rattle.sheet.specs.declared.fault.TextFault.the-variants.{TooLong, Malform
 use Rattle.sheet.specs.declared.fault.RowFault.{RowFault}
 use Rattle.sheet.specs.declared.fault.RowFault.the-variants.{Text, NotAllowed, BadTimes}
 use Rattle.sheet.specs.declared.fault.WiringFault.{WiringFault}
-use Rattle.sheet.specs.declared.fault.WiringFault.the-variants.{Row, NotEarlier}
+use Rattle.sheet.specs.declared.fault.WiringFault.the-variants.{Row, NotEarlier, NotOnSheet}
 use Rattle.sheet.specs.Faults.{wiring-told}
 
 abbrev pub layer-word : Layer → List ℕ
@@ -31,7 +31,8 @@ row-reason (BadTimes n) = codes "min must be at least 100, and max at least min"
 
 abbrev pub wiring-reason : WiringFault → List ℕ
 wiring-reason (Row f) = row-reason f
-wiring-reason (NotEarlier n) = codes "a source must be an earlier row, and an output a row of the sheet"
+wiring-reason (NotEarlier n) = codes "a source must be an earlier row"
+wiring-reason (NotOnSheet n) = codes "the row of this output is not on the sheet"
 
 -- the line that is printed
 abbrev pub fault-shown : WiringFault → List ℕ

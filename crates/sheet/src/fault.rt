@@ -34,6 +34,7 @@ pub enum RowFault {
 pub enum WiringFault {
     Row(RowFault),
     NotEarlier(u16),
+    NotOnSheet(u16),
 }
 
 pub impl From<TextFault> for RowFault as RowFromText {
@@ -123,6 +124,7 @@ impl WiringFault {
         match self {
             WiringFault::Row(fault) => fault.number(),
             WiringFault::NotEarlier(_) => 14,
+            WiringFault::NotOnSheet(_) => 14,
         }
     }
 
@@ -132,6 +134,7 @@ impl WiringFault {
         match self {
             WiringFault::Row(fault) => fault.line(),
             WiringFault::NotEarlier(line) => line,
+            WiringFault::NotOnSheet(line) => line,
         }
     }
 
@@ -141,6 +144,7 @@ impl WiringFault {
         match self {
             WiringFault::Row(fault) => fault.layer(),
             WiringFault::NotEarlier(_) => Layer::Wiring,
+            WiringFault::NotOnSheet(_) => Layer::Wiring,
         }
     }
 }

@@ -36,7 +36,7 @@ pub fn read_out(reader: &mut Reader, count: u8) -> Result<u8, WiringFault>
 {
     let row = row_lines::read_out(reader)?;
     if !is_on_sheet(row, count) {
-        return Err(WiringFault::NotEarlier(reader.line()));
+        return Err(WiringFault::NotOnSheet(reader.line()));
     }
     Ok(row)
 }

@@ -51,8 +51,8 @@ impl WiringFault {
     {
         match self {
             WiringFault::Row(fault) => fault.reason(),
-            WiringFault::NotEarlier(_) =>
-                "a source must be an earlier row, and an output a row of the sheet",
+            WiringFault::NotEarlier(_) => "a source must be an earlier row",
+            WiringFault::NotOnSheet(_) => "the row of this output is not on the sheet",
         }
     }
 }
