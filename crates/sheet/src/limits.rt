@@ -112,5 +112,5 @@ pub fn are_earlier(pins: &[Source], row: u8) -> bool
 pub fn is_on_sheet(row: u8, count: u8) -> bool
     ensures { λ r. ⌜ Decides r (row < count) ⌝ }
 {
-    row < count
+    count > row
 }
