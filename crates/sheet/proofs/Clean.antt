@@ -11,7 +11,8 @@ use Rattle.values.specs.Written.{Each}
 use Rattle.values.proofs.Clear.{two-clear, time-clear, source-clear, pins-clear, reset-clear, kind-clear, flag-clear}
 use Rattle.values.proofs.Cutting.{cut-cons}
 use Rattle.values.proofs.Glue.{Clear, clear-append, clear-test, clear-from, cut-piece, join-cut}
-use Rattle.sheet.specs.Form.{Due, Form, done, line, lines-of, Lawful, Some-left, Every}
+use Rattle.sheet.specs.Due.{Due}
+use Rattle.sheet.specs.Form.{Form, done, line, lines-of, Lawful, Some-left, Every}
 use Rattle.sheet.specs.Lines.{pieces, flat}
 use Rattle.sheet.specs.Sheet.{Said, sheet-form}
 use Rattle.sheet.proofs.Every.{every-sheet}

@@ -1,6 +1,6 @@
 -- A due line that is absent, malformed, broken or good.
-use mathlib.Core.Path.{_≡_, refl, sym, ap, subst, _∙_}
-use mathlib.Core.Logic.{_⊎_, inl, inr}
+use mathlib.Core.Path.{_≡_, refl, ap, subst, _∙_}
+use mathlib.Core.Logic.{inl, inr}
 use mathlib.Core.List.{List, [], _∷_, _++_}
 use Prim.Native.Nat.{ℕ, _+_}
 use Rattle.std.proofs.shelf.Lists.{append-cancel-left}
@@ -11,7 +11,7 @@ use Rattle.sheet.specs.declared.fault.TextFault.the-variants.{Malformed}
 use Rattle.sheet.specs.declared.fault.RowFault.the-variants.{Text}
 use Rattle.sheet.specs.declared.fault.WiringFault.{WiringFault}
 use Rattle.sheet.specs.declared.fault.WiringFault.the-variants.{Row}
-use Rattle.sheet.specs.Form.{Asked, Due, Rule, malformed, fault-at, asked, asking, Keeps, First-broken, Faulty, Bad, Took}
+use Rattle.sheet.specs.Due.{Asked, Due, Rule, malformed, fault-at, asked, asking, Keeps, First-broken, Faulty, Bad, Took}
 use Rattle.sheet.specs.Lines.{Place, Next}
 use Rattle.sheet.specs.Reading.{Hands-value, No-value}
 

@@ -1,13 +1,14 @@
 -- What holds of each kind of due line holds of every line of a sheet.
 use mathlib.Core.Bool.{Bool}
-use mathlib.Core.List.{List, [], _∷_, _++_}
+use mathlib.Core.List.{[], _∷_, _++_}
 use Prim.Native.Nat.{ℕ, zero, suc}
 use lib.Chars.{codes}
 use lib.ListN.{take, getD}
 use Rattle.block.specs.declared.types.Kind.{Kind}
-use Rattle.sheet.specs.Form.{Due, Form, done, line, and-then, many, Every}
+use Rattle.sheet.specs.Due.{Due}
+use Rattle.sheet.specs.Form.{Form, done, line, and-then, many, Every}
 use Rattle.sheet.specs.Limits.{most-rows, most-outs, least-time}
-use Rattle.sheet.specs.Sheet.{Said, count-due, time-due, kind-due, act-due, pins-due, reset-due, flag-due, out-due, row-form, out-form, no-row, sheet-form}
+use Rattle.sheet.specs.Sheet.{count-due, time-due, kind-due, act-due, pins-due, reset-due, flag-due, out-due, row-form, out-form, no-row, sheet-form}
 
 module _ (P : (V : Type 0) → Due V → Type 0) where
   every-then : {A B : Type 0} (f : Form A) (part : B → A) (next : A → Form B) → Every P f → ((a : A) → Every P (next a)) → Every P (and-then f part next)

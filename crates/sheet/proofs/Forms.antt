@@ -1,13 +1,14 @@
 -- Forms, one line or one part after the other.
 use mathlib.Core.Path.{_≡_, refl, sym, ap, subst, _∙_}
-use mathlib.Core.Logic.{_⊎_, inl, inr}
+use mathlib.Core.Logic.{inl, inr}
 use mathlib.Core.List.{List, [], _∷_, _++_, append-assoc}
 use Prim.Native.Nat.{ℕ, _+_}
 use native.Mathlib.Omega.{arith}
 use lib.ListN.{length, length-append}
 use Rattle.std.specs.declared.option.Option.the-variants.{Some}
 use Rattle.sheet.specs.declared.fault.WiringFault.{WiringFault}
-use Rattle.sheet.specs.Form.{Due, Form, done, line, and-then, written, lines-of, Lawful, Some-left, Took, Accepted, Refuses}
+use Rattle.sheet.specs.Due.{Due, written, Took}
+use Rattle.sheet.specs.Form.{Form, done, line, and-then, lines-of, Lawful, Some-left, Accepted, Refuses}
 use Rattle.sheet.specs.Lines.{Place, due, Next}
 
 pub place-same : {p q : Place} → p .left ≡ q .left → p .line ≡ q .line → p ≡ q

@@ -1,13 +1,13 @@
 -- The head of a sheet, then its rows, then its outputs.
-use mathlib.Core.Path.{refl}
-use mathlib.Core.Logic.{inl, inr}
+use mathlib.Core.Logic.{inr}
 use mathlib.Core.Bool.{Bool}
 use mathlib.Core.List.{List}
 use Prim.Native.Nat.{ℕ}
 use lib.Chars.{codes}
 use Rattle.block.specs.declared.types.Kind.{Kind}
 use Rattle.sheet.specs.declared.fault.WiringFault.{WiringFault}
-use Rattle.sheet.specs.Form.{Form, done, and-then, many, Took, Accepted, Refuses}
+use Rattle.sheet.specs.Due.{Took}
+use Rattle.sheet.specs.Form.{Form, done, and-then, many, Accepted, Refuses}
 use Rattle.sheet.specs.Limits.{most-rows, most-outs, least-time}
 use Rattle.sheet.specs.Lines.{Place}
 use Rattle.sheet.specs.Sheet.{Said-row, Said, count-due, time-due, row-form, out-form, no-row, body-form, sheet-form}

@@ -1,6 +1,6 @@
 -- A form reads lines in one way only, and gives them one fault at most.
-use mathlib.Core.Path.{_≡_, refl, sym, ap, subst, _∙_}
-use mathlib.Core.Logic.{_⊎_, inl, inr}
+use mathlib.Core.Path.{_≡_, sym, ap, subst, _∙_}
+use mathlib.Core.Logic.{inl, inr}
 use mathlib.Core.List.{List, [], _∷_}
 use Prim.Native.Nat.{ℕ, _+_}
 use native.Mathlib.Omega.{arith}
@@ -8,7 +8,8 @@ use Rattle.std.proofs.shelf.Lists.{append-cancel-left}
 use Rattle.std.specs.declared.option.Option.{Option}
 use Rattle.std.specs.declared.option.Option.the-variants.{Some}
 use Rattle.sheet.specs.declared.fault.WiringFault.{WiringFault}
-use Rattle.sheet.specs.Form.{Asked, Due, Rule, Form, done, line, fault-at, Reads, Keeps, First-broken, Faulty, Bad, Took, Accepted, Refuses, Every}
+use Rattle.sheet.specs.Due.{Asked, Due, Rule, fault-at, Reads, Keeps, First-broken, Faulty, Bad, Took}
+use Rattle.sheet.specs.Form.{Form, done, line, Accepted, Refuses, Every}
 use Rattle.sheet.specs.Lines.{Place, due}
 use Rattle.sheet.proofs.Forms.{place-same, after, accepted-took, accepted-rest}
 

@@ -15,7 +15,8 @@ use Rattle.values.specs.declared.source.Source.{Source}
 use Rattle.values.specs.declared.source.Source.the-variants as source
 use Rattle.values.specs.Written.{Each}
 use Rattle.sheet.specs.declared.row.Row.{Row}
-use Rattle.sheet.specs.Form.{Took, Accepted}
+use Rattle.sheet.specs.Due.{Took}
+use Rattle.sheet.specs.Form.{Accepted}
 use Rattle.sheet.specs.Limits.{last-terminal, pin-count}
 use Rattle.sheet.specs.Lines.{Place}
 use Rattle.sheet.specs.Sheet.{Said-row, Within, Within-reset, Earlier, kind-due, act-due, pins-due, reset-due, flag-due, row-form}

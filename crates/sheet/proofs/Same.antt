@@ -1,13 +1,10 @@
 -- Records with an invariant are equal where their plain fields are.
-use mathlib.Core.Path.{_≡_, refl, sym, ap, _∙_}
-use mathlib.Core.Bool.{Bool, true, Bool-set}
+use mathlib.Core.Path.{_≡_}
+use mathlib.Core.Bool.{true, Bool-set}
 use mathlib.Core.HLevel.{isProp→PathP}
-use mathlib.Core.List.{List}
-use Prim.Native.Nat.{ℕ}
 use Rattle.block.specs.Limits.{settings-allowed, times-allowed}
 use Rattle.block.specs.declared.settings.Settings.{Settings}
 use Rattle.block.specs.declared.times.Times.{Times}
-use Rattle.sheet.specs.declared.row.Row.{Row}
 use Rattle.sheet.specs.declared.wiring.Wiring.{Wiring}
 use Rattle.sheet.specs.Wired.{wiring-allowed}
 

@@ -1,8 +1,8 @@
 -- Tables that are filled from the front, while lines are read.
-use mathlib.Core.Path.{_≡_, refl, sym, ap, subst, _∙_}
-use mathlib.Core.Logic.{_≢_, inl, inr, ⊎-elim}
+use mathlib.Core.Path.{_≡_, sym, ap, subst, _∙_}
+use mathlib.Core.Logic.{_≢_, ⊎-elim}
 use mathlib.Core.List.{List, [], _∷_, _++_, map}
-use Prim.Native.Nat.{ℕ, suc, _+_, _<_, _≤_}
+use Prim.Native.Nat.{ℕ, _+_, _<_}
 use native.Mathlib.Omega.{arith}
 use native.Mathlib.Numerals.{add-one}
 use lib.ListN.{length, take, getD, set, replicate, length-set, length-map, length-replicate, getD-replicate}
@@ -12,7 +12,8 @@ use Rattle.std.proofs.shelf.Tests.{cases-eq}
 use Rattle.values.proofs.Cutting.{cut-cons}
 use Rattle.sheet.specs.declared.reader.Reader.{Reader}
 use Rattle.sheet.specs.declared.row.Row.{Row}
-use Rattle.sheet.specs.Form.{Form, many, done, line, Took, Accepted}
+use Rattle.sheet.specs.Due.{Took}
+use Rattle.sheet.specs.Form.{Accepted}
 use Rattle.sheet.specs.Limits.{most-rows, most-outs}
 use Rattle.sheet.specs.Lines.{Place}
 use Rattle.sheet.specs.Loads.{row-said}

@@ -2,7 +2,6 @@
 use mathlib.Core.Path.{_≡_, refl}
 use mathlib.Core.Logic.{inl, inr}
 use mathlib.Core.Bool.{Bool}
-use mathlib.Core.List.{List}
 use Prim.Native.Nat.{ℕ, _<_}
 use native.Mathlib.Omega.{arith}
 use Rattle.std.specs.Written.{decimal}
@@ -10,7 +9,7 @@ use Rattle.std.proofs.shelf.Decimals.{same-from-decimal}
 use Rattle.block.specs.declared.types.Kind.{Kind}
 use Rattle.values.specs.Written.{two, row-text}
 use Rattle.values.proofs.Same.{two-same, source-same, flag-same, reset-same, pins-same, kind-same}
-use Rattle.sheet.specs.Form.{Due, Every}
+use Rattle.sheet.specs.Form.{Every}
 use Rattle.sheet.specs.Order.{In-order, Rules-in-order}
 use Rattle.sheet.specs.Sheet.{sheet-form}
 use Rattle.sheet.proofs.Every.{every-sheet}

@@ -1,8 +1,8 @@
 -- The verdict on a text is one, and a text writes one wiring at most.
-use mathlib.Core.Path.{_≡_, refl, sym, ap, subst, _∙_}
+use mathlib.Core.Path.{_≡_, refl, sym, ap, _∙_}
 use mathlib.Core.Bool.{Bool, true}
-use mathlib.Core.List.{List, [], _∷_, _++_, append-nil}
-use Prim.Native.Nat.{ℕ, _+_, _<_, _≤_}
+use mathlib.Core.List.{List, [], _++_, append-nil}
+use Prim.Native.Nat.{ℕ, _+_}
 use native.Mathlib.Omega.{arith}
 use lib.ListN.{length, getD}
 use Rattle.block.specs.declared.types.Kind.{Kind}
@@ -15,9 +15,9 @@ use Rattle.sheet.specs.declared.fault.WiringFault.{WiringFault}
 use Rattle.sheet.specs.declared.fault.WiringFault.the-variants as fault
 use Rattle.sheet.specs.declared.row.Row.{Row}
 use Rattle.sheet.specs.declared.wiring.Wiring.{Wiring}
-use Rattle.sheet.specs.Form.{lines-of, Accepted}
+use Rattle.sheet.specs.Form.{lines-of}
 use Rattle.sheet.specs.Lines.{pieces, start}
-use Rattle.sheet.specs.Loads.{said, lines-for, text-for, text, Takes, Refused-for, Refused, too-long, bad-line, trailing, One-verdict, One-wiring, Texts-are-short}
+use Rattle.sheet.specs.Loads.{said, text-for, text, Takes, Refused-for, too-long, bad-line, trailing, One-verdict, One-wiring, Texts-are-short}
 use Rattle.sheet.specs.Sheet.{sheet-form, known}
 use Rattle.sheet.specs.Wires.{listed}
 use Rattle.sheet.proofs.Only.{exclusive, same-fault, same-reading}

@@ -1,8 +1,8 @@
 -- Every wiring is lawful, and its text is read as its lines.
-use mathlib.Core.Path.{_≡_, refl, sym, ap, subst, _∙_}
-use mathlib.Core.Bool.{Bool, true, _&&_}
-use mathlib.Core.List.{List, [], _∷_, _++_, map}
-use Prim.Native.Nat.{ℕ, _+_, _<_, _≤_}
+use mathlib.Core.Path.{_≡_, refl, sym, subst, _∙_}
+use mathlib.Core.Bool.{Bool, _&&_}
+use mathlib.Core.List.{List, _++_, map}
+use Prim.Native.Nat.{ℕ, _<_, _≤_}
 use native.Mathlib.Omega.{arith}
 use lib.Dec.{leb}
 use lib.ListN.{length, getD, length-map}
@@ -10,9 +10,8 @@ use Rattle.std.proofs.shelf.Lists.{getD-map}
 use Rattle.std.proofs.shelf.Tests.{and-parts, leb-true}
 use Rattle.block.specs.declared.types.Kind.{Kind}
 use Rattle.values.proofs.Cutting.{cut-cons}
-use Rattle.sheet.specs.declared.row.Row.{Row}
 use Rattle.sheet.specs.declared.wiring.Wiring.{Wiring}
-use Rattle.sheet.specs.Form.{Form, done, and-then, many, Lawful, Accepted}
+use Rattle.sheet.specs.Form.{done, and-then, many, Lawful, Accepted}
 use Rattle.sheet.specs.Limits.{most-bytes, least-time, most-time}
 use Rattle.sheet.specs.Lines.{Place, pieces, start}
 use Rattle.sheet.specs.Loads.{row-said, said, lines-for, text-for, Takes}

@@ -1,11 +1,10 @@
 -- How long the lines of a sheet can be.
-use mathlib.Core.Path.{_≡_, refl, ap, subst, _∙_}
+use mathlib.Core.Path.{_≡_, subst}
 use mathlib.Core.Bool.{Bool, true, false}
-use mathlib.Core.List.{List, [], _∷_, _++_, map}
+use mathlib.Core.List.{List, [], _∷_, _++_}
 use Prim.Native.Nat.{ℕ, zero, suc, _+_, _*_, _<_, _≤_}
 use native.Mathlib.Omega.{arith}
 use native.Mathlib.Nat.{suc-mul, mul-le-mul-right}
-use lib.Chars.{codes}
 use lib.ListN.{length, take, getD, length-append}
 use Rattle.std.specs.Written.{decimal}
 use Rattle.std.proofs.shelf.Decimals.{length-decimal-le}
@@ -15,8 +14,9 @@ use Rattle.block.specs.declared.types.Kind.{Kind}
 use Rattle.block.specs.declared.types.Kind.the-variants.{And, Or, Estop}
 use Rattle.values.specs.declared.source.Source.{Source}
 use Rattle.values.specs.declared.source.Source.the-variants.{Zero, One, Terminal, Row}
-use Rattle.values.specs.Written.{source-text, pins-text, reset-text, kind-word, flag-text, Four-short}
-use Rattle.sheet.specs.Form.{Form, done, line, and-then, many, written, Keeps, lines-of, Lawful}
+use Rattle.values.specs.Written.{source-text, pins-text, reset-text, kind-word, flag-text}
+use Rattle.sheet.specs.Due.{written, Keeps}
+use Rattle.sheet.specs.Form.{Form, done, line, and-then, many, lines-of, Lawful}
 use Rattle.sheet.specs.Limits.{most-bytes}
 use Rattle.sheet.specs.Lines.{flat}
 use Rattle.sheet.specs.Sheet.{row-form, out-form, no-row, body-form, sheet-form}

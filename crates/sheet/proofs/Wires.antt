@@ -1,15 +1,13 @@
 -- The rows and outputs of a wiring keep what its tables keep.
 use mathlib.Core.Path.{_≡_, sym, ap, subst, _∙_}
-use mathlib.Core.Bool.{true, cond}
+use mathlib.Core.Bool.{true}
 use Prim.Native.Nat.{ℕ, _-_, _<_}
 use native.Mathlib.Omega.{arith}
 use lib.Dec.{ltb, eqb}
-use lib.ListN.{length, getD}
+use lib.ListN.{getD}
 use lib.Seq.{getD-take, length-take-le}
 use Rattle.std.proofs.shelf.Tests.{cond-true, lt-ltb, ltb-true}
-use Rattle.sheet.specs.declared.row.Row.{Row}
 use Rattle.sheet.specs.declared.wiring.Wiring.{Wiring}
-use Rattle.sheet.specs.Limits.{most-rows, most-outs}
 use Rattle.sheet.specs.Wired.{row-wired, row-blank}
 use Rattle.sheet.specs.Wires.{listed, routed, Rows-wired, Outs-wired}
 use Rattle.sheet.proofs.Wired.{Rows-table, Outs-table, wiring-from}

@@ -4,7 +4,8 @@ use mathlib.Core.Logic.{_⊎_}
 use mathlib.Core.Bool.{Bool}
 use mathlib.Core.List.{List, [], _∷_}
 use Rattle.block.specs.declared.types.Kind.{Kind}
-use Rattle.sheet.specs.Form.{Rule, malformed, outside, not-earlier, off-sheet, not-allowed, bad-times, Asked, Due, Every}
+use Rattle.sheet.specs.Due.{Rule, malformed, outside, not-earlier, off-sheet, not-allowed, bad-times, Asked, Due}
+use Rattle.sheet.specs.Form.{Every}
 use Rattle.sheet.specs.Sheet.{sheet-form}
 
 -- the order of the rules

@@ -2,6 +2,7 @@
 use mathlib.Core.Path.{_≡_}
 use mathlib.Core.List.{List, _++_}
 use Prim.Native.Nat.{ℕ, _+_}
+use lib.ListN.{length}
 use Rattle.std.specs.declared.option.Option.the-variants.{Some, None}
 use Rattle.sheet.specs.declared.fault.TextFault.{TextFault}
 use Rattle.sheet.specs.declared.fault.TextFault.the-variants.{Malformed}
@@ -11,6 +12,10 @@ use Rattle.sheet.specs.Lines.{Place, pieces, due, Next}
 -- how far the reader is
 abbrev pub at : Reader → Place
 at r = record { left = pieces (r .rest .now); line = r .line }
+
+-- no byte is left
+abbrev pub Ended : Reader → Type 0
+Ended r = length (r .rest .now) ≡ 0
 
 -- the due line, with its number
 pub record Hands-line (bytes : List ℕ) (number : ℕ) (p q : Place) : Type 0 where

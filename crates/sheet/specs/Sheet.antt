@@ -13,7 +13,8 @@ use Rattle.block.specs.declared.types.Kind.the-variants.{And, Or, Estop}
 use Rattle.values.specs.declared.source.Source.{Source}
 use Rattle.values.specs.declared.source.Source.the-variants.{Zero, One, Terminal, Row}
 use Rattle.values.specs.Written.{Any, Two-digits, Five-digits, Short, Four-short, Short-reset, Each, two, row-text, source-text, pins-text, reset-text, kind-word, flag-text}
-use Rattle.sheet.specs.Form.{Due, Form, asked, asking, done, line, and-then, many, outside, not-earlier, off-sheet, not-allowed, bad-times}
+use Rattle.sheet.specs.Due.{Due, asked, asking, outside, not-earlier, off-sheet, not-allowed, bad-times}
+use Rattle.sheet.specs.Form.{Form, done, line, and-then, many}
 use Rattle.sheet.specs.Limits.{most-rows, last-row, most-outs, last-terminal, least-time, most-time}
 
 -- what the lines of a row say

@@ -12,9 +12,9 @@ use Rattle.sheet.specs.declared.fault.TextFault.the-variants.{TooLong, Trailin
 use Rattle.sheet.specs.declared.fault.WiringFault.{WiringFault}
 use Rattle.sheet.specs.declared.fault.WiringFault.the-variants.{Row}
 use Rattle.sheet.specs.declared.reader.Reader.{Reader}
-use Rattle.sheet.specs.Form.{Due, Bad, Took}
+use Rattle.sheet.specs.Due.{Due, Bad, Took}
 use Rattle.sheet.specs.Limits.{most-bytes}
-use Rattle.sheet.specs.Reading.{at}
+use Rattle.sheet.specs.Reading.{at, Ended}
 
 -- the line d is read as v from a to b, or it is bad and f is its fault
 abbrev pub Text-step : {V : Type 0} → Due V → Reader → Reader → Result V TextFault → Type 0
@@ -33,10 +33,6 @@ Wiring-step d a b (Err f) = Bad d (at a) f
 abbrev pub Length-checked : {U F : Type 0} → (TextFault → F) → List ℕ → Result U F → Type 0
 Length-checked holding s (Ok u) = length s ≤ most-bytes
 Length-checked holding s (Err f) = (most-bytes < length s) × (f ≡ holding TooLong)
-
--- no byte is left
-abbrev pub Ended : Reader → Type 0
-Ended r = length (r .rest .now) ≡ 0
 
 -- no byte is left, or the fault says in which line the rest begins
 abbrev pub End-checked : {U F : Type 0} → (TextFault → F) → Reader → Result U F → Type 0

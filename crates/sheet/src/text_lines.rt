@@ -1,5 +1,4 @@
 // The due lines as text: each is absent or malformed, has a number outside its limit, or is read.
-ghost use lib.Chars.{codes};
 ghost use Rattle.sheet.specs.Sheet.{known, count-due, time-text-due, kind-due, act-text-due, pins-text-due, reset-due, flag-text-due, out-text-due};
 ghost use Rattle.sheet.specs.Steps.{Text-step, Length-checked, End-checked};
 use crate::fault::TextFault;

@@ -3,7 +3,6 @@ use mathlib.Core.Path.{_≡_, refl, ap, _∙_}
 use mathlib.Core.List.{List, [], _∷_, map}
 use Prim.Native.Nat.{ℕ}
 use native.Mathlib.Omega.{arith}
-use lib.ListN.{length}
 use Rattle.values.specs.declared.source.Source.{Source}
 use Rattle.values.specs.Cut.{cut-at}
 use Rattle.values.specs.Written.{source-text, pins-text, Short, Four-short}

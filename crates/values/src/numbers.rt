@@ -16,7 +16,7 @@ fn parse_digit(b: u8) -> Option<u8>
 }
 
 // The number that two digit bytes write.
-pub fn parse_pair(tens: u8, ones: u8) -> Option<u8>
+pub(crate) fn parse_pair(tens: u8, ones: u8) -> Option<u8>
     ensures { λ r. ⌜ Parsed Two-digits two (tens ∷ ones ∷ []) r ⌝ }
 {
     let a = parse_digit(tens)?;

@@ -1,12 +1,12 @@
 // Handing out lines and the values in them.
 ghost use mathlib.Core.Path.{_≡_};
 ghost use Prim.Native.Nat.{_+_, _≤_};
-ghost use lib.Dec.{eqb};
+ghost use Rattle.std.specs.Orderings.{Decides};
 ghost use lib.ListN.{length};
 ghost use Rattle.std.specs.Results.{Cases};
 ghost use Rattle.sheet.specs.Limits.{most-bytes};
 ghost use Rattle.sheet.specs.Lines.{start};
-ghost use Rattle.sheet.specs.Reading.{at, Hands-line, No-line, Hands-value, No-value};
+ghost use Rattle.sheet.specs.Reading.{at, Ended, Hands-line, No-line, Hands-value, No-value};
 use super::Part;
 use super::Reader;
 use crate::fault::TextFault;
@@ -63,7 +63,7 @@ impl<'a> Reader<'a> {
 
     // Whether no byte is left.
     pub fn is_done(&self) -> bool
-        ensures { λ r. ⌜ r ≡ eqb (length (now (now (self .entry) .rest))) 0 ⌝ }
+        ensures { λ r. ⌜ Decides r (Ended (now (self .entry))) ⌝ }
     {
         self.rest.is_empty()
     }

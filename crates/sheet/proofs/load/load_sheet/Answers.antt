@@ -12,11 +12,10 @@ use Rattle.sheet.specs.declared.fault.TextFault.the-variants.{Trailing}
 use Rattle.sheet.specs.declared.reader.Reader.{Reader}
 use Rattle.sheet.specs.declared.wiring.Wiring.{Wiring}
 use Rattle.sheet.specs.Form.{Accepted, Refuses, lines-of}
-use Rattle.sheet.specs.Lines.{Place, start, pieces}
+use Rattle.sheet.specs.Lines.{start}
 use Rattle.sheet.specs.Loads.{said, text, Refused, too-long, bad-line, trailing}
 use Rattle.sheet.specs.Reading.{at}
 use Rattle.sheet.specs.Sheet.{sheet-form, known}
-use Rattle.sheet.specs.Steps.{Ended}
 use Rattle.sheet.proofs.Clean.{text-from-pieces}
 use Rattle.sheet.proofs.Verdict.{takes-known, one-verdict, one-wiring}
 use Rattle.sheet.proofs.load.load_sheet.Needs as need

@@ -1,10 +1,9 @@
-use mathlib.Core.Path.{_≡_, refl, sym, subst}
+use mathlib.Core.Path.{sym, subst}
 use mathlib.Core.Logic.{inl, inr}
-use lib.Chars.{codes}
 use Rattle.std.proofs.shelf.Results.{err-from-errBy}
-use Rattle.sheet.specs.Form.{Took, Accepted}
+use Rattle.sheet.specs.Form.{Accepted}
 use Rattle.sheet.specs.Reading.{at}
-use Rattle.sheet.specs.Sheet.{Said-row, row-form, flag-due, known}
+use Rattle.sheet.specs.Sheet.{Said-row, row-form, known}
 use Rattle.sheet.proofs.Rows.{row-accepted, wired-from}
 use Rattle.sheet.proofs.load.read_row.Needs as need
 

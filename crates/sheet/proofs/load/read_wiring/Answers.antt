@@ -4,9 +4,9 @@ use mathlib.Core.List.{map}
 use lib.ListN.{take}
 use Rattle.std.proofs.shelf.Results.{err-from-errBy}
 use Rattle.sheet.specs.Form.{Accepted}
-use Rattle.sheet.specs.Loads.{row-said, said}
+use Rattle.sheet.specs.Loads.{row-said}
 use Rattle.sheet.specs.Reading.{at}
-use Rattle.sheet.specs.Sheet.{Said, sheet-form, known}
+use Rattle.sheet.specs.Sheet.{sheet-form, known}
 use Rattle.sheet.proofs.Head.{sheet-accepted, rows-refused, outs-refused}
 use Rattle.sheet.proofs.Wired.{filled-allowed}
 use Rattle.sheet.proofs.load.read_wiring.Needs as need

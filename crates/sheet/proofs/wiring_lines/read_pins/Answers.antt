@@ -1,6 +1,6 @@
 use Rattle.std.proofs.shelf.Results.{err-from-errBy}
 use Rattle.values.specs.Written.{Each}
-use Rattle.sheet.specs.Form.{not-earlier}
+use Rattle.sheet.specs.Due.{not-earlier}
 use Rattle.sheet.specs.Reading.{at}
 use Rattle.sheet.specs.Sheet.{pins-text-due, Earlier}
 use Rattle.sheet.proofs.Due.{asking-bad}

@@ -1,10 +1,9 @@
-use mathlib.Core.Path.{_≡_, refl, sym, ap, subst, _∙_}
+use mathlib.Core.Path.{_≡_, sym, ap, subst, _∙_}
 use mathlib.Core.List.{List, [], _∷_, _++_}
-use Prim.Native.Nat.{ℕ, _+_, _-_, _*_, _<_, _≤_}
+use Prim.Native.Nat.{ℕ, _+_, _-_, _<_, _≤_}
 use native.Mathlib.Omega.{arith}
 use Rattle.std.proofs.shelf.Tests.{both-ways}
 use lib.ListN.{length, getD, take}
-use borrow.Author.Tests.{true-eqb, tests}
 use Rattle.std.specs.Written.{decimal}
 use Rattle.std.proofs.shelf.Lists.{take-more, take-all, length-take-le}
 use Rattle.std.proofs.shelf.Numerals.{value-short}

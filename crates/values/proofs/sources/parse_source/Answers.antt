@@ -1,12 +1,9 @@
-use mathlib.Core.Path.{_≡_, refl, sym, ap, _∙_}
-use mathlib.Core.List.{List, [], _∷_}
-use Prim.Native.Nat.{ℕ, _+_, _/_, _%_, _<_}
+use mathlib.Core.Path.{refl, ap, _∙_}
+use mathlib.Core.List.{[], _∷_}
 use native.Mathlib.Omega.{arith}
 use borrow.Author.Tests.{ltb-false, tests}
-use lib.ListN.{length, getD}
-use borrow.Author.Needs.{needs}
+use lib.ListN.{getD}
 use Rattle.std.proofs.shelf.Equals.{text-from-reads}
-use Rattle.values.specs.Written.{two}
 use Rattle.values.proofs.sources.parse_source.Needs as need
 
 pub returns-in-48 : need.returns-in-48
