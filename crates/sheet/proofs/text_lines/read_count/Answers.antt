@@ -1,0 +1,9 @@
+use Rattle.sheet.specs.Reading.{at}
+use Rattle.sheet.specs.Sheet.{count-due}
+use Rattle.sheet.proofs.Due.{misread}
+use Rattle.sheet.proofs.text_lines.read_count.Needs as need
+
+pub returns-in-rest : need.returns-in-rest
+returns-in-rest c =
+    misread (count-due (c .args .key .now) (c .args .most)) (at (c .args .reader .now)) (c .in-Continue-part .part .bytes .now) (c .in-Continue-part .part .line) (at (c .value .last .self))
+    (c .in-Continue-part .ensures tt) (c .in-rest .ensures tt)

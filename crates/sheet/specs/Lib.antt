@@ -1,0 +1,14 @@
+pub mod Due
+pub mod Faults
+pub mod Form
+pub mod Limits
+pub mod Lines
+pub mod Loads
+pub mod Order
+pub mod Reading
+pub mod Sheet
+pub mod Steps
+pub mod Tables
+pub mod Wired
+pub mod Wires
+pub mod Words

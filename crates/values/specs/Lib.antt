@@ -1,0 +1,3 @@
+pub mod Cut
+pub mod Parsed
+pub mod Written
