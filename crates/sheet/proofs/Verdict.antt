@@ -69,10 +69,13 @@ pub takes-known : (w : Wiring) → Takes known w
 takes-known w k past l = all-known (getD (listed w) k past .settings .kind)
 
 pub one-verdict : One-verdict
+unfolding text
 one-verdict = record { one-fault = one-fault known; no-fault = λ s f w e. no-fault known s w (takes-known w) e f }
 
 pub one-wiring : One-wiring
+unfolding text
 one-wiring v w e = only-wiring known (text v) w (takes-known w) e v (takes-known v) refl
 
 pub texts-are-short : Texts-are-short
+unfolding text
 texts-are-short w = text-short w known (takes-known w)

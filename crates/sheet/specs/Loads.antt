@@ -45,8 +45,8 @@ module _ (taken : Kind → Bool) where
     bad-line : length s ≤ most-bytes → Refuses (sheet-form taken) (start s) f → Refused-for s f
     trailing : (w : Wiring) (rest : List ℕ) → length s ≤ most-bytes → Takes w → s ≡ text-for w ++ rest → (rest ≡ [] → ⊥) → f ≡ fault.Row (Text (Trailing (length (lines-for w) + 1))) → Refused-for s f
 
--- the text of a wiring
-abbrev pub text : Wiring → List ℕ
+-- the text of a wiring; shut, so that callers of the loader do not see it written out
+unfoldable pub text : Wiring → List ℕ
 text w = text-for known w
 
 -- the text s has the fault f

@@ -2,7 +2,7 @@
 pub mod fault;
 mod limits;
 pub mod load;
-pub mod reader;
+mod reader;
 pub mod row;
 mod row_lines;
 mod text_lines;

@@ -43,6 +43,7 @@ returns-in-Break-wiring c =
 
 -- the text that was read up to the reader r
 read-text : (s : List ℕ) (a r : Reader) (w : Wiring) → at a ≡ start s → Accepted (sheet-form known) (said w) (at a) (at r) → s ≡ text w ++ r .rest .now
+unfolding text
 read-text s a r w e h = text-from-pieces s (r .rest .now) (lines-of (sheet-form known) (said w)) (sym (ap (λ p. p .left) e) ∙ h .left)
 
 empty : (l : List ℕ) → length l ≡ 0 → l ≡ []
@@ -50,6 +51,7 @@ empty [] e = refl
 empty (b ∷ l) e = absurd (omega arith)
 
 pub returns-in-Break-check-end : need.returns-in-Break-check-end
+unfolding text
 returns-in-Break-check-end c =
     let p = err-from-errBy (c .from-residual-in-Break-check-end .result) (c .from-residual-in-Break-check-end .ensures .1) in
     let b = c .in-Break-check-end .ensures tt in
@@ -68,6 +70,7 @@ returns-in-Break-check-end c =
     rw (p .1, p .2) (record { verdict = r; exact = λ v e. never s (fault.Row f) v r e })
 
 pub returns : need.returns
+unfolding text
 returns c =
     let s = c .args .sheet .now in
     let w = c .in-Continue-wiring .wiring in

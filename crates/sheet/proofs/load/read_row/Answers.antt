@@ -10,27 +10,27 @@ use Rattle.sheet.proofs.load.read_row.Needs as need
 pub returns-in-Break-act : need.returns-in-Break-act
 returns-in-Break-act c =
     let p = err-from-errBy (c .from-residual-in-Break-act .result) (c .from-residual-in-Break-act .ensures .1) in
-    rw (p .1, p .2) (inr (_, _, c .in-Continue-kind .ensures tt, inl (c .in-Break-act .ensures tt)))
+    rw (p .1, p .2) (inr (c .in-Continue-kind .kind, at (c .read-kind .last .reader), c .in-Continue-kind .ensures tt, inl (c .in-Break-act .ensures tt)))
 
 pub returns-in-Break-pins : need.returns-in-Break-pins
 returns-in-Break-pins c =
     let p = err-from-errBy (c .from-residual-in-Break-pins .result) (c .from-residual-in-Break-pins .ensures .1) in
-    rw (p .1, p .2) (inr (_, _, c .in-Continue-kind .ensures tt, inr (_, _, c .in-Continue-act .ensures tt, inl (c .in-Break-pins .ensures tt))))
+    rw (p .1, p .2) (inr (c .in-Continue-kind .kind, at (c .read-kind .last .reader), c .in-Continue-kind .ensures tt, inr (c .in-Continue-act .act, at (c .read-act .last .reader), c .in-Continue-act .ensures tt, inl (c .in-Break-pins .ensures tt))))
 
 pub returns-in-Break-reset : need.returns-in-Break-reset
 returns-in-Break-reset c =
     let p = err-from-errBy (c .from-residual-in-Break-reset .result) (c .from-residual-in-Break-reset .ensures .1) in
-    rw (p .1, p .2) (inr (_, _, c .in-Continue-kind .ensures tt, inr (_, _, c .in-Continue-act .ensures tt, inr (_, _, c .in-Continue-pins .ensures tt, inl (c .in-Break-reset .ensures tt)))))
+    rw (p .1, p .2) (inr (c .in-Continue-kind .kind, at (c .read-kind .last .reader), c .in-Continue-kind .ensures tt, inr (c .in-Continue-act .act, at (c .read-act .last .reader), c .in-Continue-act .ensures tt, inr (c .in-Continue-pins .pins, at (c .read-pins .last .reader), c .in-Continue-pins .ensures tt, inl (c .in-Break-reset .ensures tt)))))
 
 pub returns-in-Break-start : need.returns-in-Break-start
 returns-in-Break-start c =
     let p = err-from-errBy (c .from-residual-in-Break-start .result) (c .from-residual-in-Break-start .ensures .1) in
-    rw (p .1, p .2) (inr (_, _, c .in-Continue-kind .ensures tt, inr (_, _, c .in-Continue-act .ensures tt, inr (_, _, c .in-Continue-pins .ensures tt, inr (_, _, c .in-Continue-reset .ensures tt, inl (c .in-Break-start .ensures tt))))))
+    rw (p .1, p .2) (inr (c .in-Continue-kind .kind, at (c .read-kind .last .reader), c .in-Continue-kind .ensures tt, inr (c .in-Continue-act .act, at (c .read-act .last .reader), c .in-Continue-act .ensures tt, inr (c .in-Continue-pins .pins, at (c .read-pins .last .reader), c .in-Continue-pins .ensures tt, inr (c .in-Continue-reset .reset, at (c .read-reset .last .reader), c .in-Continue-reset .ensures tt, inl (c .in-Break-start .ensures tt))))))
 
 pub returns-in-Break-auto : need.returns-in-Break-auto
 returns-in-Break-auto c =
     let p = err-from-errBy (c .from-residual-in-Break-auto .result) (c .from-residual-in-Break-auto .ensures .1) in
-    rw (p .1, p .2) (inr (_, _, c .in-Continue-kind .ensures tt, inr (_, _, c .in-Continue-act .ensures tt, inr (_, _, c .in-Continue-pins .ensures tt, inr (_, _, c .in-Continue-reset .ensures tt, inr (_, _, c .in-Continue-start .ensures tt, inl (c .in-Break-auto .ensures tt)))))))
+    rw (p .1, p .2) (inr (c .in-Continue-kind .kind, at (c .read-kind .last .reader), c .in-Continue-kind .ensures tt, inr (c .in-Continue-act .act, at (c .read-act .last .reader), c .in-Continue-act .ensures tt, inr (c .in-Continue-pins .pins, at (c .read-pins .last .reader), c .in-Continue-pins .ensures tt, inr (c .in-Continue-reset .reset, at (c .read-reset .last .reader), c .in-Continue-reset .ensures tt, inr (c .in-Continue-start .start, at (c .read-flag .last .reader), c .in-Continue-start .ensures tt, inl (c .in-Break-auto .ensures tt)))))))
 
 pub returns : need.returns
 returns c =

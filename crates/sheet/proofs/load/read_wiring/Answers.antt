@@ -14,17 +14,17 @@ use Rattle.sheet.proofs.load.read_wiring.Needs as need
 pub returns-in-Break-outputs : need.returns-in-Break-outputs
 returns-in-Break-outputs c =
     let p = err-from-errBy (c .from-residual-in-Break-outputs .result) (c .from-residual-in-Break-outputs .ensures .1) in
-    rw (p .1, p .2) (inr (_, _, c .in-Continue-count .ensures tt, inl (c .in-Break-outputs .ensures tt)))
+    rw (p .1, p .2) (inr (c .in-Continue-count .count, at (c .read-count .last .reader), c .in-Continue-count .ensures tt, inl (c .in-Break-outputs .ensures tt)))
 
 pub returns-in-Break-min : need.returns-in-Break-min
 returns-in-Break-min c =
     let p = err-from-errBy (c .from-residual-in-Break-min .result) (c .from-residual-in-Break-min .ensures .1) in
-    rw (p .1, p .2) (inr (_, _, c .in-Continue-count .ensures tt, inr (_, _, c .in-Continue-outputs .ensures tt, inl (c .in-Break-min .ensures tt))))
+    rw (p .1, p .2) (inr (c .in-Continue-count .count, at (c .read-count .last .reader), c .in-Continue-count .ensures tt, inr (c .in-Continue-outputs .outputs, at (c .read-count-2 .last .reader), c .in-Continue-outputs .ensures tt, inl (c .in-Break-min .ensures tt))))
 
 pub returns-in-Break-max : need.returns-in-Break-max
 returns-in-Break-max c =
     let p = err-from-errBy (c .from-residual-in-Break-max .result) (c .from-residual-in-Break-max .ensures .1) in
-    rw (p .1, p .2) (inr (_, _, c .in-Continue-count .ensures tt, inr (_, _, c .in-Continue-outputs .ensures tt, inr (_, _, c .in-Continue-min .ensures tt, inl (c .in-Break-max .ensures tt)))))
+    rw (p .1, p .2) (inr (c .in-Continue-count .count, at (c .read-count .last .reader), c .in-Continue-count .ensures tt, inr (c .in-Continue-outputs .outputs, at (c .read-count-2 .last .reader), c .in-Continue-outputs .ensures tt, inr (c .in-Continue-min .min, at (c .read-time .last .reader), c .in-Continue-min .ensures tt, inl (c .in-Break-max .ensures tt)))))
 
 pub read-rows-requires : need.read-rows-requires
 read-rows-requires c κs = c .in-Continue-count .ensures tt .keeps .0 .1
