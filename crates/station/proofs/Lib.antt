@@ -1,0 +1,17 @@
+pub mod Bits
+pub mod Blocks
+pub mod Covers
+pub mod Effects
+pub mod Fitting
+pub mod Leaving
+pub mod Loading
+pub mod Local
+pub mod Masks
+pub mod Needed
+pub mod Placing
+pub mod Promises
+pub mod Reading
+pub mod Releases
+pub mod Rule
+pub mod Running
+pub mod Wiring

@@ -1,0 +1,17 @@
+pub mod Calls
+pub mod Histories
+pub mod Image
+pub mod Loads
+pub mod Masks
+pub mod Needs
+pub mod Outputs
+pub mod Promises
+pub mod Reads
+pub mod Refusals
+pub mod Releases
+pub mod Reports
+pub mod Rows
+pub mod Runs
+pub mod Scans
+pub mod Stations
+pub mod Wires
