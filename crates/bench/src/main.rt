@@ -1,4 +1,6 @@
 // Checks the sheets that its arguments name; without any, steps an emergency stop and prints what it shows.
+#![tactic(auto)]
+
 mod stop;
 
 use sheet::load_sheet;

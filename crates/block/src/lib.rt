@@ -1,4 +1,6 @@
 // The block interface: what a block means, the laws that it keeps, and rising blocks.
+#![tactic(auto)]
+
 ghost use Rattle.std.specs.Prelude.{◌≡◌, Bool};
 ghost use Rattle.block.specs.declared.code.Code.{Code};
 ghost use Rattle.block.specs.declared.setup.Setup.{Setup};

@@ -1,4 +1,6 @@
 // The button layer: one rising block under one reset button.
+#![tactic(auto)]
+
 ghost use Rattle.block.specs.Of.{meaning};
 ghost use Rattle.button.specs.Button.{buttoned};
 

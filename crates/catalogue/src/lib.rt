@@ -1,4 +1,6 @@
 // The catalogue: the kinds of block that a sheet can name, and one enum over them.
+#![tactic(auto)]
+
 ghost use Rattle.catalogue.specs.Catalogue.{catalogue};
 ghost use Rattle.catalogue.specs.Members.{catalogue_steps};
 

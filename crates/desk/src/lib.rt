@@ -1,4 +1,6 @@
 // A station at a desk: it serves a list of requests, and each call answers.
+#![tactic(auto)]
+
 pub mod answer;
 pub mod call;
 pub mod desk;

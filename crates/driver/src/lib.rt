@@ -1,4 +1,6 @@
 // The bench program: plays a script on one station and prints every answer.
+#![tactic(auto)]
+
 mod gather;
 mod play;
 

@@ -9,8 +9,8 @@ use Rattle.block.specs.Rises.{Rises}
 use Rattle.block.specs.Runs.{ResetOff}
 use Rattle.block.proofs.Rise.{comes_on_at_a_rise}
 use Rattle.group.specs.Group.{turned_input, grouped}
-use Rattle.group.proofs.Laws.{group_steps}
-use Rattle.group.proofs.Steps.{group_no_fault, group_ends_off, group_ends_waiting}
+use Rattle.group.specs.Laws.{group_steps}
+use Rattle.group.specs.Steps.{group_no_fault, group_ends_off, group_ends_waiting}
 
 turned_off : (i : Input) → ResetOff i → ResetOff (turned_input i)
 turned_off i q = record { active = q.active; off = q.off }

@@ -1,2 +1,4 @@
 pub mod Group
+pub mod Laws
 pub mod Members
+pub mod Steps

@@ -1,4 +1,6 @@
 // `bench STATION [SCRIPT]`: plays a script on one station and prints every answer.
+#![tactic(auto)]
+
 use driver::run_bench;
 
 fn main(rt: HostRuntime) -> anyhow::Result<()> {

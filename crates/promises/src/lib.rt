@@ -1,4 +1,6 @@
 // The promises over every history, together: of outputs, of latched rows, and of stacks of layers.
+#![tactic(auto)]
+
 ghost use Rattle.block.specs.Laws.{Laws};
 ghost use Rattle.block.specs.Meaning.{Meaning};
 ghost use Rattle.sheet.specs.declared.wiring.Wiring.{Wiring};

@@ -1,4 +1,6 @@
 // The reset button: its plain fields, its record with an invariant, and its step.
+#![tactic(auto)]
+
 pub mod button;
 pub mod fields;
 

@@ -1,4 +1,6 @@
 // The lines of a bench script: what each says.
+#![tactic(auto)]
+
 pub mod command;
 pub mod image;
 pub mod keywords;

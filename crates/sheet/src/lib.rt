@@ -1,4 +1,6 @@
 // The loader for wiring sheets: any bytes are read as the one wiring that they write, or refused.
+#![tactic(auto)]
+
 pub mod fault;
 mod limits;
 pub mod load;

@@ -1,5 +1,7 @@
 // Sheets at the edges of every rule, and what the loader answers.
 // stdin has the lines to alter in a good sheet, and stdout the stored answers.
+#![tactic(auto)]
+
 mod wholes;
 
 use sheet::load_sheet;

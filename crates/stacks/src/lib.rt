@@ -1,4 +1,6 @@
 // Stacks of layers: any rising block, or a group of two stacks, to any depth; one button may stand on top.
+#![tactic(auto)]
+
 ghost use Rattle.block.specs.Laws.{Laws};
 ghost use Rattle.block.specs.Of.{meaning};
 ghost use Rattle.block.specs.Rises.{Rises};

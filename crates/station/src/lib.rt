@@ -1,4 +1,6 @@
 // The station: loading, scanning and halting a table of any one kind of block.
+#![tactic(auto)]
+
 pub mod needs;
 pub mod outputs;
 pub mod refusal;

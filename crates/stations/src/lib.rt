@@ -1,4 +1,6 @@
 // The three stations: what their tables hold.
+#![tactic(auto)]
+
 use button::Button;
 use catalogue::Catalogue;
 use group::Group;

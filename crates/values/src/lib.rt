@@ -1,4 +1,6 @@
 // The values of a sheet's lines: how each is written, and the readers of single values.
+#![tactic(auto)]
+
 pub mod cut;
 pub mod numbers;
 pub mod source;

@@ -1,4 +1,6 @@
 // Examples that a person can check by hand, over the types that stations hold.
+#![tactic(auto)]
+
 use button::Button;
 use catalogue::Catalogue;
 use group::Group;

@@ -2,7 +2,7 @@ use borrow.Author.Rules.{rules}
 use Rattle.block.specs.Of.{meaning}
 use Rattle.block.proofs.Rise.{comes_on_at_a_rise}
 use Rattle.group.specs.Group.{grouped}
-use Rattle.group.proofs.Laws.{group_steps}
+use Rattle.group.specs.Laws.{group_steps}
 use Rattle.group.proofs.GroupBlock.comes_on.Goals as goal
 
 pub returns : goal.returns

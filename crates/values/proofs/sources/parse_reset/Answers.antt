@@ -5,9 +5,9 @@ use Rattle.values.proofs.sources.parse_reset.Goals as goal
 pub returns-in-45 : goal.returns-in-45
 returns-in-45 c = (tt, text_from_reads _ (45 ∷ []) (omega (arith, tests, ltb-false)) (omega arith, tt))
 
-pub returns-in-ok-parse-pair : goal.returns-in-ok-parse-pair
-returns-in-ok-parse-pair c =
+pub returns-in_ok-parse_pair-in-105 : goal.returns-in_ok-parse_pair-in-105
+returns-in_ok-parse_pair-in-105 c =
     let s = c.args.s.now in
-    let e = c.in-ok-parse-pair.ensures.1 in
+    let e = c.in_ok-parse_pair-in-105.ensures.1 in
     let w = text_from_reads s (105 ∷ get_or s 1 0 ∷ get_or s 2 0 ∷ []) (omega (arith, tests, ltb-false)) (omega arith, (refl, (refl, tt))) in
-    (c.in-ok-parse-pair.ensures.0, w ∙ ap (λ t. 105 ∷ t) e)
+    (c.in_ok-parse_pair-in-105.ensures.0, w ∙ ap (λ t. 105 ∷ t) e)

@@ -2,9 +2,9 @@ use Rattle.std.proofs.Common.{[], ◌∷◌, get_or, refl, ap, ◌∙◌, arith,
 use Rattle.std.proofs.lemmas.Slice.Eq.{text_from_reads}
 use Rattle.values.proofs.sources.parse_row.Goals as goal
 
-pub returns-in-ok-parse-pair : goal.returns-in-ok-parse-pair
-returns-in-ok-parse-pair c =
+pub returns-in_ok-parse_pair-in-114 : goal.returns-in_ok-parse_pair-in-114
+returns-in_ok-parse_pair-in-114 c =
     let s = c.args.s.now in
-    let e = c.in-ok-parse-pair.ensures.1 in
+    let e = c.in_ok-parse_pair-in-114.ensures.1 in
     let w = text_from_reads s (114 ∷ get_or s 1 0 ∷ get_or s 2 0 ∷ []) (omega (arith, tests, ltb-false)) (omega arith, (refl, (refl, tt))) in
-    (c.in-ok-parse-pair.ensures.0, w ∙ ap (λ t. 114 ∷ t) e)
+    (c.in_ok-parse_pair-in-114.ensures.0, w ∙ ap (λ t. 114 ∷ t) e)

@@ -7,7 +7,7 @@ use Rattle.block.specs.Laws.{StepLaws}
 use Rattle.block.specs.Meaning.{Meaning}
 use Rattle.block.specs.Runs.{Quiet}
 use Rattle.group.specs.Group.{turned_input, grouped}
-use Rattle.group.proofs.Steps.{group_no_fault, group_ends_off, group_ends_waiting}
+use Rattle.group.specs.Steps.{group_no_fault, group_ends_off, group_ends_waiting}
 
 -- a quiet step is quiet for the second member too
 turned_quiet : (i : Input) → Quiet i → Quiet (turned_input i)
