@@ -1,4 +1,1 @@
-pub mod Modes
-pub mod Laws
 pub mod Press
-pub mod Relations

@@ -21,7 +21,7 @@ use Rattle.reset.specs.Limits.{read_back}
 use Rattle.reset.specs.Machine.{entering, lasting, is_pulse}
 use Rattle.reset.proofs.Facts.{read_allowed, read_stepped}
 use Rattle.button.specs.Button.{button_input, fields_next, inner_input, is_in_error, buttoned}
-use Rattle.button.proofs.Modes.{waiting_in, on_out}
+use Rattle.button.specs.Modes.{waiting_in, on_out}
 
 abbrev off : ResetStep
 off = record { now = false; elapsed = 0 }

@@ -1,2 +1,5 @@
 pub mod Button
 pub mod Inner
+pub mod Laws
+pub mod Modes
+pub mod Relations

@@ -2,6 +2,8 @@
 ghost use Rattle.block.specs.Of.{meaning};
 ghost use Rattle.reset.specs.declared.fields.ButtonFields.{ButtonFields};
 ghost use Rattle.button.specs.Inner.{Buttons};
+ghost use Rattle.button.specs.Relations.{button_relations};
+ghost use Rattle.std.proofs.Common.{rules};
 
 use crate::Button;
 use block::{Block, Rising};
@@ -19,6 +21,8 @@ impl<B: Rising> HasInner<B> for Button<B> {
     ghost inner = { λ b. b.inner };
 
     ghost fields = { λ b. b.button };
+
+    ghost buttons = { button_relations (meaning B.Block.own) (Prim.search rules) };
 }
 
 // The mode, clear words, latched flag and releases of the layer are those of its inner block and button, by these relations.

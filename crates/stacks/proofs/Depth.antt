@@ -2,9 +2,9 @@
 use borrow.Author.Rules.{rules}
 use Rattle.block.specs.Laws.{Laws}
 use Rattle.block.specs.Rises.{Rises}
-use Rattle.button.proofs.Laws.{button_steps}
+use Rattle.button.specs.Laws.{button_steps}
 use Rattle.button.proofs.Press.{button_comes_on}
-use Rattle.button.proofs.Relations.{button_relations}
+use Rattle.button.specs.Relations.{button_relations}
 use Rattle.group.specs.Laws.{group_steps}
 use Rattle.group.proofs.Rising.{group_rises, group_comes_on}
 use Rattle.stacks.specs.Stacks.{Stack, Leaf, Pair, stacked, Layers, Stands}

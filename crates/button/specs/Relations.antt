@@ -6,7 +6,7 @@ use Rattle.block.specs.Meaning.{Meaning}
 use Rattle.button.specs.declared.Button.{Button}
 use Rattle.button.specs.Button.{button_input, inner_step, buttoned}
 use Rattle.button.specs.Inner.{Buttons}
-use Rattle.button.proofs.Modes.{waiting_in, waiting_out, fault_cases}
+use Rattle.button.specs.Modes.{waiting_in, waiting_out, fault_cases}
 
 module _ {B : Type 0} (m : Meaning B) (law : StepLaws m) where
   pub button_relations : Buttons (λ (b : Button B). b.inner) (λ b. b.button) m (buttoned m)

@@ -7,7 +7,7 @@ use Rattle.block.specs.Laws.{StepLaws}
 use Rattle.block.specs.Meaning.{Meaning}
 use Rattle.reset.specs.Machine.{in_error}
 use Rattle.button.specs.Button.{inner_step, button_mode, is_in_error, buttoned}
-use Rattle.button.proofs.Modes.{idle_in, idle_out, off_in, off_out, on_in, on_out, waiting_in, waiting_out, fault_in, fault_cases, fault_out, pulse_in, inner_quiet, no_error_back}
+use Rattle.button.specs.Modes.{idle_in, idle_out, off_in, off_out, on_in, on_out, waiting_in, waiting_out, fault_in, fault_cases, fault_out, pulse_in, inner_quiet, no_error_back}
 
 module _ {B : Type 0} (m : Meaning B) (law : StepLaws m) where
   pub button_steps : StepLaws (buttoned m)
