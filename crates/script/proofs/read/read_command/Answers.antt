@@ -1,13 +1,13 @@
 use Rattle.script.proofs.read.read_command.Goals as goal
 
-pub returns-in-err-read-halt : goal.returns-in-err-read-halt
-returns-in-err-read-halt c = rw (c.from-residual-in-err-read-halt.ensures, c.in-Halt.is) c.in-err-read-halt.ensures
+pub returns-in_err-read_halt-in-Halt : goal.returns-in_err-read_halt-in-Halt
+returns-in_err-read_halt-in-Halt c = rw (c.from_residual-in_err-read_halt-in-Halt.ensures, c.in-Halt.is) c.in_err-read_halt-in-Halt.ensures
 
-pub returns-in-err-output : goal.returns-in-err-output
-returns-in-err-output c = rw (c.from-residual-in-err-output.ensures, c.in-Needs.is) (λ m h. c.in-err-output.ensures h.number h.number_is)
+pub returns-in_err-output-in-Needs : goal.returns-in_err-output-in-Needs
+returns-in_err-output-in-Needs c = rw (c.from_residual-in_err-output-in-Needs.ensures, c.in-Needs.is) (λ m h. c.in_err-output-in-Needs.ensures h.number h.number_is)
 
-pub returns-in-err-count : goal.returns-in-err-count
-returns-in-err-count c = rw (c.from-residual-in-err-count.ensures, c.in-Blocks.is) (λ m h. c.in-err-count.ensures h.number h.number_is)
+pub returns-in_err-count-in-Blocks : goal.returns-in_err-count-in-Blocks
+returns-in_err-count-in-Blocks c = rw (c.from_residual-in_err-count-in-Blocks.ensures, c.in-Blocks.is) (λ m h. c.in_err-count-in-Blocks.ensures h.number h.number_is)
 
-pub returns-in-err-count-2 : goal.returns-in-err-count-2
-returns-in-err-count-2 c = rw (c.from-residual-in-err-count-2.ensures, c.in-Bytes.is) (λ m h. c.in-err-count-2.ensures h.number h.number_is)
+pub returns-in_err-count-in-Bytes : goal.returns-in_err-count-in-Bytes
+returns-in_err-count-in-Bytes c = rw (c.from_residual-in_err-count-in-Bytes.ensures, c.in-Bytes.is) (λ m h. c.in_err-count-in-Bytes.ensures h.number h.number_is)

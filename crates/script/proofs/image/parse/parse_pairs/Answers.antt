@@ -7,7 +7,7 @@ loop-i-preserved c = (
   simp length-set c.loop-i.invariant.0,
   below_more _ _
       (λ k h. let ne : k ≢ c.loop-i.i = omega arith in rw get_or-set_other (c.loop-i.invariant.1 k h))
-      (let lt : c.loop-i.i < length c.loop-i.bytes = omega arith in rw get_or-set_same c.in-ok-bytes.ensures),
+      (let lt : c.loop-i.i < length c.loop-i.bytes = omega arith in rw get_or-set_same c.in_ok-bytes.ensures),
 )
 
 pub returns : goal.returns
@@ -15,7 +15,7 @@ returns c =
     let s = c.args.s.now in
     let size = length s / 2 in
     let bytes = c.loop-i.bytes in
-    let long = c.is-pairs-long.ensures.0 c.if-not-is-pairs-long.false in
+    let long = c.is_pairs_long.ensures.0 c.if-not-is_pairs_long.false in
     let count : length (take size bytes) ≡ size = length-take-le size bytes (omega arith) in
     record {
       long = long;
