@@ -4,11 +4,11 @@ use Rattle.stacks.proofs.stacks_are_blocks.Goals as goal
 pub returns : goal.returns
 returns g c = record {
   stacks = λ s. stands s;
-  leaf-laws = c.keeps-laws.ensures;
-  leaf-rises = c.rises.ensures;
-  group_laws = c.keeps-laws-2.ensures;
+  leaf_laws = c.keeps_laws.ensures;
+  leaf_rises = c.rises.ensures;
+  group_laws = c.keeps_laws-2.ensures;
   group_rises = c.rises-2.ensures;
-  group = c.group-is-its-members.ensures;
-  button_laws = c.keeps-laws-3.ensures;
-  button = c.button-is-its-inner.ensures;
+  group = c.group_is_its_members.ensures;
+  button_laws = c.keeps_laws-3.ensures;
+  button = c.button_is_its_inner.ensures;
 }

@@ -3,7 +3,7 @@ use Rattle.sheet.specs.Sheet.{count_due}
 use Rattle.sheet.proofs.Due.{misread}
 use Rattle.sheet.proofs.text_lines.read_count.Goals as goal
 
-pub returns-in-default : goal.returns-in-default
-returns-in-default c =
-    misread (count_due c.args.key.now c.args.most) (at c.args.reader.now) c.in-ok-part.part.bytes.now c.in-ok-part.part.line (at c.value.new.self)
-    c.in-ok-part.ensures c.in-default.ensures
+pub returns-in_default : goal.returns-in_default
+returns-in_default c =
+    misread (count_due c.args.key.now c.args.most) (at c.args.reader.now) c.in_ok-part.part.bytes.now c.in_ok-part.part.line (at c.value.new.self)
+    c.in_ok-part.ensures c.in_default.ensures

@@ -3,8 +3,8 @@ use Rattle.sheet.specs.Lines.{due}
 use Rattle.sheet.proofs.Handed.{due_first}
 use Rattle.sheet.proofs.reader.Reader.next_line.Goals as goal
 
-pub invariant-of-self : goal.invariant-of-self
-invariant-of-self c = (omega (arith, simp length-append at (ap length c.in-Some.ensures.whole)), tt)
+pub invariant_of-self : goal.invariant_of-self
+invariant_of-self c = record { few = omega (arith, simp length-append at (ap length c.in-Some.ensures.whole)) }
 
 pub returns-in-Some : goal.returns-in-Some
 returns-in-Some c =
