@@ -19,12 +19,12 @@ loop-k-preserved g c =
     let on_sheet : k < length rows = search rules in
     let within : k < length xs = search rules in
     let in_table : k < length table = search rules in
-    let mask = c.row-mask.result in
+    let mask = c.row_mask.result in
     let of_block =
     subst (λ (b : g.row.B.Denot). (t : ℕ) → t < terminals → (bit_at mask t ≡ true) ↔ RowNeeds (m.clear b) (masked xs) c.index-rows-k.result t)
-    (get_or_read table k _ in_table c.index-table-k.is _) c.row-mask.ensures
+    (get_or_read table k _ in_table c.index-table-k.is _) c.row_mask.ensures
     in
     let of_row =
     subst (λ (r : Row). (t : ℕ) → t < terminals → (bit_at mask t ≡ true) ↔ RowNeeds (m.clear (at m table k)) (masked xs) r t) (get_or_read rows k _ on_sheet c.index-rows-k.is _) of_block
     in
-    (search rules, mask_more (clear_in m (at m table)) rows c.requires.2 xs k mask on_sheet within c.loop-k.invariant.1 of_row)
+    (search rules, mask_more (clear_in m (at m table)) rows c.requires.wired xs k mask on_sheet within c.loop-k.invariant.1 of_row)

@@ -7,7 +7,7 @@ use Rattle.station.specs.Outputs.{output_on}
 use Rattle.station.specs.Scans.{at, on_in}
 use Rattle.station.proofs.Bits.{bits_on, bits_off}
 use Rattle.station.proofs.outputs.byte_of_outputs.Goals as goal
-use Rattle.station.proofs.outputs.byte_of_outputs.Goals.{then-is-output-on, else-is-output-on}
+use Rattle.station.proofs.outputs.byte_of_outputs.Goals.{then-is_output_on, else-is_output_on}
 
 pub loop-j-preserved : goal.loop-j-preserved
 loop-j-preserved g c =
@@ -16,10 +16,10 @@ loop-j-preserved g c =
     let x = c.loop-j.byte in
     let f : ℕ → Bool = λ u. output_on c.args.outs.now (on_in m (at m c.args.table.now)) (c.args.base + u) in
     let twice : 2 ^ (j + 1) ≡ 2 ^ j + 2 ^ j = ap (λ n. 2 ^ n) (add-one j) ∙ two-pow-succ j in
-    elim c.if-is-output-on.branch [
-      | then-is-output-on w ↦
-          let more : c.if-is-output-on.byte ≡ x + 2 ^ j = w.byte-is ∙ ap (λ y. x + y) (one_shl j 8 c.loop-j-test.true) in
-          (omega (arith, twice, c.loop-j.invariant.0), λ u lt. ap (λ y. bit_at y u) more ∙ bits_on f x j c.loop-j.invariant.0 c.loop-j.invariant.1 (sym c.is-output-on.ensures ∙ w.if-is-output-on.true) u lt)
-      | else-is-output-on w ↦
-          (omega (arith, twice, w.byte-is, c.loop-j.invariant.0), λ u lt. ap (λ y. bit_at y u) w.byte-is ∙ bits_off f x j c.loop-j.invariant.0 c.loop-j.invariant.1 (sym c.is-output-on.ensures ∙ w.if-is-output-on.false) u lt)
+    elim c.if-is_output_on.branch [
+      | then-is_output_on w ↦
+          let more : c.if-is_output_on.byte ≡ x + 2 ^ j = w.byte-is ∙ ap (λ y. x + y) (one_shl j 8 c.loop-j-test.true) in
+          (omega (arith, twice, c.loop-j.invariant.0), λ u lt. ap (λ y. bit_at y u) more ∙ bits_on f x j c.loop-j.invariant.0 c.loop-j.invariant.1 (sym c.is_output_on.ensures ∙ w.if-is_output_on.true) u lt)
+      | else-is_output_on w ↦
+          (omega (arith, twice, w.byte-is, c.loop-j.invariant.0), λ u lt. ap (λ y. bit_at y u) w.byte-is ∙ bits_off f x j c.loop-j.invariant.0 c.loop-j.invariant.1 (sym c.is_output_on.ensures ∙ w.if-is_output_on.false) u lt)
     ]

@@ -3,4 +3,4 @@ use Rattle.station.proofs.Placing.{put_put}
 use Rattle.station.proofs.report.put.Goals as goal
 
 pub returns : goal.returns
-returns c = record { put = put_put c.args.at c.args.bytes.now c.args.place.now c.copy-from-slice.new.self c.copy-from-slice.ensures.after; end = search rules }
+returns c = record { put = put_put c.args.at c.args.bytes.now c.args.place.now c.copy_from_slice.new.self c.copy_from_slice.ensures.after; end = search rules }

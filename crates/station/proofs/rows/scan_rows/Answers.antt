@@ -11,6 +11,6 @@ loop-k-preserved g c =
     let t = c.loop-k.table in
     let k = c.loop-k.k in
     let within : k < length t = search rules in
-    let given = c.input-of-row-input.ensures in
+    let given = c.input_of_row-input.ensures in
     scan_more m c.args.rows.now c.args.image.now c.args.last.now c.args.elapsed (at m c.args.table.now) t k c.step.result
-    c.requires.3 (search rules) within c.loop-k.invariant.0 c.loop-k.invariant.1 (search (rules, get_or_read))
+    c.requires.wired (search rules) within c.loop-k.invariant.0 c.loop-k.invariant.1 (search (rules, get_or_read))

@@ -10,8 +10,8 @@ use Rattle.station.proofs.station.Station.halt.Goals as goal
 laws : (g : given.Over) → StepLaws (meaning g.B.Block)
 laws g = search rules
 
-pub returns-then-not-are-sizes-allowed : goal.returns-then-not-are-sizes-allowed
-returns-then-not-are-sizes-allowed g c =
+pub returns-then-not-are_sizes_allowed : goal.returns-then-not-are_sizes_allowed
+returns-then-not-are_sizes_allowed g c =
     let call = Halt (length c.args.table.now) (length c.args.outputs.now) in
     let e : effect (Halt (length c.args.table.now) (length c.args.outputs.now)) ≡ Leaves = search rules in
     let leaves = nothing_leaves (meaning g.B.Block) (effect call) c.args.self.now c.args.table.now c.args.outputs.now e in

@@ -10,7 +10,7 @@ returns g c =
     record {
       wiring = refl;
       last = refl;
-      table = subst (λ (r : List Row). Halted m r (at m c.args.table.now) (at m c.idle-rows.new.table)) c.rows.ensures.rows c.idle-rows.ensures;
+      table = subst (λ (r : List Row). Halted m r (at m c.args.table.now) (at m c.idle_rows.new.table)) c.rows.ensures.rows c.idle_rows.ensures;
       blocks = search rules;
-      outputs = c.switch-off.ensures;
+      outputs = c.switch_off.ensures;
     }

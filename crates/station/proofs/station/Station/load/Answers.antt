@@ -10,8 +10,8 @@ use Rattle.station.proofs.station.Station.load.Goals as goal
 laws : (g : given.Over) → StepLaws (meaning g.B.Block)
 laws g = search rules
 
-pub returns-then-not-are-sizes-allowed : goal.returns-then-not-are-sizes-allowed
-returns-then-not-are-sizes-allowed g c =
+pub returns-then-not-are_sizes_allowed : goal.returns-then-not-are_sizes_allowed
+returns-then-not-are_sizes_allowed g c =
     let sizes : sizes_allowed (length c.args.table.now) (length c.args.outputs.now) ≡ false = search rules in
     (sizes, load_refused (meaning g.B.Block) (laws g) c.args.self.now c.args.table.now c.args.outputs.now)
 
@@ -29,9 +29,9 @@ returns-in-Ok g c =
         written = c.in-Ok.ensures.verdict;
         loaded = refl;
         last = refl;
-        table = c.fill-rows.ensures;
+        table = c.fill_rows.ensures;
         blocks = search rules;
-        outputs = c.switch-off.ensures;
-        begins = load_begins (meaning g.B.Block) (laws g) c.in-Ok.wiring _ c.args.table.now c.fill-rows.new.table c.args.outputs.now c.switch-off.new.bytes sizes refl refl c.fill-rows.ensures (search rules) c.switch-off.ensures;
+        outputs = c.switch_off.ensures;
+        begins = load_begins (meaning g.B.Block) (laws g) c.in-Ok.wiring _ c.args.table.now c.fill_rows.new.table c.args.outputs.now c.switch_off.new.bytes sizes refl refl c.fill_rows.ensures (search rules) c.switch_off.ensures;
       },
     )

@@ -36,13 +36,13 @@ returns g c =
     let size : eqb (length c.args.table.now) table_size ≡ true = search rules in
     let here : ltb c.args.output (length c.outs-outs.result.now) ≡ true = search rules in
     let number = subst (λ (o : List ℕ). ltb c.args.output (length o) ≡ true) c.outs-outs.ensures.outs here in
-    let rule = subst (λ (r : List Row). Needs (clear_in m (at m c.args.table.now)) r (masked c.row-masks-masks.result)) c.rows.ensures.rows c.row-masks-masks.ensures in
+    let rule = subst (λ (r : List Row). Needs (clear_in m (at m c.args.table.now)) r (masked c.row_masks-masks.result)) c.rows.ensures.rows c.row_masks-masks.ensures in
     let wired = subst Wired c.rows.ensures.rows c.rows.ensures.wired in
-    let masks = c.row-masks-masks.result in
+    let masks = c.row_masks-masks.result in
     let output = c.args.output in
     let outs = c.outs-outs.ensures.outs in
     let on_sheet = subst (λ (o : List ℕ). get_or o output 0 < length (rows_of s)) outs (c.outs-outs.ensures.within output (ltb-true output (length c.outs-outs.result.now) here)) in
-    let fits : get_or c.row-masks-masks.result (get_or c.outs-outs.result.now c.args.output 0) 0 < 18446744073709551616 = search rules in
+    let fits : get_or c.row_masks-masks.result (get_or c.outs-outs.result.now c.args.output 0) 0 < 18446744073709551616 = search rules in
     let small = subst (λ (o : List ℕ). get_or masks (get_or o output 0) 0 < 18446744073709551616) outs fits in
     let told = needs_told m (laws g) s c.args.table.now masks rule wired output on_sheet small in
     record { answer = (size, number, subst (λ (o : List ℕ). NeedsTold m s c.args.table.now output (get_or masks (get_or o output 0) 0)) (sym outs) told); history = reads (meaning g.B.Block) (laws g) c.args.self.now c.args.table.now }

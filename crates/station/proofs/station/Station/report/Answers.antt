@@ -48,8 +48,8 @@ returns g c =
     let room : leb report_place (length c.args.place.now) ≡ true = le-leb report_place (length c.args.place.now) c.if-place-lt54.false in
     let within : k < length t = rw (eqb-true (length t) table_size size) (rows_short (length c.rows-rows.result.now) c.if-row-rows.false c.rows-rows.ensures.few) in
     let block = get_or_read t k _ within c.index-table-row.is _ in
-    let told : ReportTold m t k c.write-report.result c.args.place.now c.write-report.new.place = record {
-      written = subst (λ (b : g.row.B.Denot). Written (report_text m k b) c.args.place.now c.write-report.new.place) block c.write-report.ensures.written;
-      length = subst (λ (b : g.row.B.Denot). c.write-report.result ≡ length (report_text m k b)) block c.write-report.ensures.length;
+    let told : ReportTold m t k c.write_report.result c.args.place.now c.write_report.new.place = record {
+      written = subst (λ (b : g.row.B.Denot). Written (report_text m k b) c.args.place.now c.write_report.new.place) block c.write_report.ensures.written;
+      length = subst (λ (b : g.row.B.Denot). c.write_report.result ≡ length (report_text m k b)) block c.write_report.ensures.length;
     } in
     record { answer = (size, number, room, told); history = reads (meaning g.B.Block) (laws g) c.args.self.now c.args.table.now }

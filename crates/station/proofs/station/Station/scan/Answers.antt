@@ -13,15 +13,15 @@ use Rattle.station.proofs.station.Station.scan.Goals as goal
 laws : (g : given.Over) → StepLaws (meaning g.B.Block)
 laws g = search rules
 
-pub returns-then-not-are-sizes-allowed : goal.returns-then-not-are-sizes-allowed
-returns-then-not-are-sizes-allowed g c =
+pub returns-then-not-are_sizes_allowed : goal.returns-then-not-are_sizes_allowed
+returns-then-not-are_sizes_allowed g c =
     let call = Scan (length c.args.table.now) c.args.image.now c.args.elapsed (length c.args.outputs.now) in
     let e : effect (Scan (length c.args.table.now) c.args.image.now c.args.elapsed (length c.args.outputs.now)) ≡ Leaves = search rules in
     let leaves = nothing_leaves (meaning g.B.Block) (effect call) c.args.self.now c.args.table.now c.args.outputs.now e in
     record { answer = sym (ap scan_answer e); leaves = leaves; history = goes_on (meaning g.B.Block) (laws g) call _ _ _ _ _ _ leaves }
 
-pub returns-then-not-is-elapsed-allowed : goal.returns-then-not-is-elapsed-allowed
-returns-then-not-is-elapsed-allowed g c =
+pub returns-then-not-is_elapsed_allowed : goal.returns-then-not-is_elapsed_allowed
+returns-then-not-is_elapsed_allowed g c =
     let call = Scan (length c.args.table.now) c.args.image.now c.args.elapsed (length c.args.outputs.now) in
     let e : effect (Scan (length c.args.table.now) c.args.image.now c.args.elapsed (length c.args.outputs.now)) ≡ Stops = search rules in
     let leaves = halt_leaves (meaning g.B.Block) (effect call) c.args.self.now _ c.args.table.now _ c.args.outputs.now _ e c.idle.ensures in
@@ -33,12 +33,12 @@ returns g c =
     let e : effect (Scan (length c.args.table.now) c.args.image.now c.args.elapsed (length c.args.outputs.now)) ≡ Steps c.args.image.now c.args.elapsed = search rules in
     let m = meaning g.B.Block in
     let leaves =
-    scan_leaves m (effect call) c.args.image.now c.args.elapsed c.args.self.now _ c.args.table.now c.scan-rows.new.table c.args.outputs.now c.show-outputs.new.bytes e (record {
+    scan_leaves m (effect call) c.args.image.now c.args.elapsed c.args.self.now _ c.args.table.now c.scan_rows.new.table c.args.outputs.now c.show_outputs.new.bytes e (record {
       wiring = refl;
-      last = c.copy-from-slice.ensures.after;
-      table = subst (λ (r : List Row). Scanned m r c.args.image.now c.args.self.now.last c.args.elapsed (at m c.args.table.now) (at m c.scan-rows.new.table)) c.rows.ensures.rows c.scan-rows.ensures;
+      last = c.copy_from_slice.ensures.after;
+      table = subst (λ (r : List Row). Scanned m r c.args.image.now c.args.self.now.last c.args.elapsed (at m c.args.table.now) (at m c.scan_rows.new.table)) c.rows.ensures.rows c.scan_rows.ensures;
       blocks = search rules;
-      outputs = subst (λ (o : List ℕ). Shows o (on_in m (at m c.scan-rows.new.table)) c.show-outputs.new.bytes) c.outs.ensures.outs c.show-outputs.ensures;
+      outputs = subst (λ (o : List ℕ). Shows o (on_in m (at m c.scan_rows.new.table)) c.show_outputs.new.bytes) c.outs.ensures.outs c.show_outputs.ensures;
       bytes = search rules;
     })
     in
