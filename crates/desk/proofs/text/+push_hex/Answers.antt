@@ -9,6 +9,6 @@ pub returns : goal.returns
 returns t c =
     let digits = c.args.digits in
     let some : digits ≡ 0 → ⊥ = λ e. omega arith in
-    let front = c.in-ok-push-hex.ensures in
-    let last : vec_items c.push.new.self ≡ vec_items c.push-hex.new.line ++ c.digit-of.result ∷ [] = search rules in
-    hex_more (vec_items c.args.line.now) (vec_items c.push-hex.new.line) (vec_items c.push.new.self) c.args.digits c.args.n c.digit-of.result some front c.digit-of.ensures last
+    let front = c.in_ok-push_hex.ensures in
+    let last : vec_items c.push.new.self ≡ vec_items c.push_hex.new.line ++ c.digit_of.result ∷ [] = search rules in
+    hex_more (vec_items c.args.line.now) (vec_items c.push_hex.new.line) (vec_items c.push.new.self) c.args.digits c.args.n c.digit_of.result some front c.digit_of.ensures last

@@ -5,9 +5,9 @@ use Rattle.desk.proofs.text.with_outputs.Goals as goal
 
 pub returns : goal.returns
 returns c =
-    let head : vec_items c.in-ok-line.line ≡ c.args.head.now = search rules in
-    let key : vec_items c.extend-from-slice.new.self ≡ vec_items c.in-ok-line.line ++ codes " outputs=" = search rules in
-    let end : vec_items c.extend-from-slice-2.new.self ≡ vec_items c.push-hex-2.new.line ++ codes "\n" = search rules in
+    let head : vec_items c.in_ok-line.line ≡ c.args.head.now = search rules in
+    let key : vec_items c.extend_from_slice.new.self ≡ vec_items c.in_ok-line.line ++ codes " outputs=" = search rules in
+    let end : vec_items c.extend_from_slice-2.new.self ≡ vec_items c.push_hex-2.new.line ++ codes "\n" = search rules in
     four_parts c.args.head.now (codes " outputs=") (hex_text 2 (get_or c.args.outputs 0 0)) (hex_text 2 (get_or c.args.outputs 1 0)) (codes "\n")
-    (vec_items c.in-ok-line.line) (vec_items c.extend-from-slice.new.self) (vec_items c.push-hex.new.line) (vec_items c.push-hex-2.new.line) (vec_items c.extend-from-slice-2.new.self)
+    (vec_items c.in_ok-line.line) (vec_items c.extend_from_slice.new.self) (vec_items c.push_hex.new.line) (vec_items c.push_hex-2.new.line) (vec_items c.extend_from_slice-2.new.self)
     head key (search rules) (search rules) end

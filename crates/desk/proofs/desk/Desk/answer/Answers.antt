@@ -21,27 +21,27 @@ returns g c =
     let o = c.args.outputs.now in
     let k = c.min-blocks.result in
     let j = c.min-bytes.result in
-    let t₁ = c.call-station-reply.new.table in
-    let o₁ = c.call-station-reply.new.outputs in
+    let t₁ = c.call_station-reply.new.table in
+    let o₁ = c.call_station-reply.new.outputs in
     let ke : c.min-blocks.result ≡ min c.args.self.now.blocks (length c.args.table.now) = search rules in
     let je : c.min-bytes.result ≡ min c.args.self.now.bytes (length c.args.outputs.now) = search rules in
-    let kl : length c.call-station-reply.new.table ≡ c.min-blocks.result = search rules in
-    let jl : length c.call-station-reply.new.outputs ≡ c.min-bytes.result = search rules in
-    let called = called_first m c.args.call.now c.call-station-reply.result d.station c.call-station-reply.new.station d.blocks k t t₁ d.bytes j o o₁ ke kl je jl c.call-station-reply.ensures in
+    let kl : length c.call_station-reply.new.table ≡ c.min-blocks.result = search rules in
+    let jl : length c.call_station-reply.new.outputs ≡ c.min-bytes.result = search rules in
+    let called = called_first m c.args.call.now c.call_station-reply.result d.station c.call_station-reply.new.station d.blocks k t t₁ d.bytes j o o₁ ke kl je jl c.call_station-reply.ensures in
     let table = rest_after d.blocks k t ke t₁ kl in
     let outputs = rest_after d.bytes j o je o₁ jl in
     let blocks_same : length (lent d.blocks (returned k t t₁)) ≡ length (lent d.blocks t) = ap length (first_after d.blocks k t ke t₁ kl) ∙ kl ∙ ke ∙ sym (length-take d.blocks t) in
     let bytes_same : length (lent d.bytes (returned j o o₁)) ≡ length (lent d.bytes o) = ap length (first_after d.bytes j o je o₁ jl) ∙ jl ∙ je ∙ sym (length-take d.bytes o) in
-    let bytes : c.byte-at.result ∷ c.byte-at-2.result ∷ [] ≡ shown (returned j o o₁) = ap (λ (x : ℕ). x ∷ c.byte-at-2.result ∷ []) c.byte-at.ensures ∙ ap (λ (x : ℕ). get_or (returned j o o₁) 0 0 ∷ x ∷ []) c.byte-at-2.ensures in
+    let bytes : c.byte_at.result ∷ c.byte_at-2.result ∷ [] ≡ shown (returned j o o₁) = ap (λ (x : ℕ). x ∷ c.byte_at-2.result ∷ []) c.byte_at.ensures ∙ ap (λ (x : ℕ). get_or (returned j o o₁) 0 0 ∷ x ∷ []) c.byte_at-2.ensures in
     record {
       served = record {
-        reply = c.call-station-reply.result;
-        answer = ap (λ (x : List ℕ). Some (record { reply = c.call-station-reply.result; outputs = x })) bytes;
+        reply = c.call_station-reply.result;
+        answer = ap (λ (x : List ℕ). Some (record { reply = c.call_station-reply.result; outputs = x })) bytes;
         outcome = called.outcome;
         table = table;
         outputs = outputs;
         blocks = refl;
         bytes = refl;
       };
-      past = call_goes_on m (laws g) c.args.call.now c.call-station-reply.result d _ t (returned k t t₁) o (returned j o o₁) called table outputs blocks_same bytes_same (c.byte-at.result ∷ c.byte-at-2.result ∷ []);
+      past = call_goes_on m (laws g) c.args.call.now c.call_station-reply.result d _ t (returned k t t₁) o (returned j o o₁) called table outputs blocks_same bytes_same (c.byte_at.result ∷ c.byte_at-2.result ∷ []);
     }

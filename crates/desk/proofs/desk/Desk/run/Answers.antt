@@ -14,8 +14,8 @@ loop-request-preserved g c = (
   ran_more (meaning g.B.Block) c.args.requests.now c.loop-request.request-index c.request-item.result
       (scene c.args.self.now c.args.table.now c.args.outputs.now (vec_items c.reserve.new.self))
       (scene c.loop-request.self c.loop-request.table c.loop-request.outputs (vec_items c.loop-request.answers))
-      (scene c.serve-and-note.new.self c.serve-and-note.new.table c.serve-and-note.new.outputs (vec_items c.serve-and-note.new.answers))
-      c.loop-request-test.true c.request-item.is c.loop-request.invariant.0 c.serve-and-note.ensures.turn c.serve-and-note.ensures.past,
+      (scene c.serve_and_note.new.self c.serve_and_note.new.table c.serve_and_note.new.outputs (vec_items c.serve_and_note.new.answers))
+      c.loop-request-test.true c.request-item.is c.loop-request.invariant.0 c.serve_and_note.ensures.turn c.serve_and_note.ensures.past,
   search rules,
 )
 

@@ -6,8 +6,8 @@ use Rattle.desk.proofs.desk.Desk.serve_and_note.Goals as goal
 
 pub returns-in-Some : goal.returns-in-Some
 returns-in-Some g c =
-    let turn : Turn (meaning g.B.Block) c.args.request.now (scene c.args.self.now c.args.table.now c.args.outputs.now (vec_items c.args.answers.now)) (scene c.serve.new.self c.serve.new.table c.serve.new.outputs (vec_items c.push-reserved.new.self)) =
-    record { answer = Some c.in-Some.answer; added = c.push-reserved.ensures.items; served = c.in-Some.ensures.served } in
+    let turn : Turn (meaning g.B.Block) c.args.request.now (scene c.args.self.now c.args.table.now c.args.outputs.now (vec_items c.args.answers.now)) (scene c.serve.new.self c.serve.new.table c.serve.new.outputs (vec_items c.push_reserved.new.self)) =
+    record { answer = Some c.in-Some.answer; added = c.push_reserved.ensures.items; served = c.in-Some.ensures.served } in
     record {
       turn = turn;
       past = λ p fits. let next = c.in-Some.ensures.past p fits in (next.0, record { turn = turn; past = next.1 });

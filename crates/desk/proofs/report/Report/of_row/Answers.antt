@@ -11,10 +11,10 @@ returns-in-Ok g c =
     record {
       answer = record {
         place = take c.min-room.result (replicate 64 0);
-        place' = take c.min-room.result c.report-at.new.place;
+        place' = take c.min-room.result c.report_at.new.place;
         room = room;
         outcome = told;
-        bytes = report_held (meaning g.B.Block) c.args.station.now c.args.table.now c.args.row c.in-Ok.size c.min-room.result (replicate 64 0) c.report-at.new.place told;
+        bytes = report_held (meaning g.B.Block) c.args.station.now c.args.table.now c.args.row c.in-Ok.size c.min-room.result (replicate 64 0) c.report_at.new.place told;
       };
       history = c.in-Ok.ensures.history;
     }
@@ -25,7 +25,7 @@ returns-in-Err g c =
     record {
       answer = record {
         place = take c.min-room.result (replicate 64 0);
-        place' = take c.min-room.result c.report-at.new.place;
+        place' = take c.min-room.result c.report_at.new.place;
         room = room;
         outcome = c.in-Err.ensures.answer;
         bytes = tt;
