@@ -2,7 +2,6 @@
 use Rattle.std.specs.Prelude.{◌≡◌, Bool, true, false, List, [], ◌∷◌, ℕ, ◌-◌}
 use Rattle.block.specs.declared.code.Code.{Code}
 use Rattle.block.specs.declared.code.Code.TheVariants.{H8000, HC001, HC3E0, HC3F0}
-use Rattle.block.specs.declared.types.Input.{Input}
 use Rattle.block.specs.declared.types.Mode.{Mode}
 use Rattle.block.specs.declared.types.Mode.TheVariants.{Off, Waiting, On, Fault}
 use Rattle.catalogue.specs.declared.Catalogue.{Catalogue}

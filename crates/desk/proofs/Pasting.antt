@@ -1,25 +1,21 @@
 -- What a call at a desk leaves, by the sizes that it is lent.
-use Rattle.std.proofs.Common.{◌≡◌, ℕ, Bool, true, false, cond, ◌&&◌, eqb, ◌⊎◌, List, [], ◌∷◌, ◌++◌, length, take, drop, Some, None, Ok, Err, MatchBool, sym, refl, ap, ◌∙◌, subst, inl, inr, ⊎_elim}
-use Rattle.std.proofs.lemmas.Bool.{and_parts, both_ways, eqb-true, cases_Bool}
-use Rattle.block.specs.Laws.{StepLaws}
+use Rattle.std.proofs.Common.{◌≡◌, ℕ, true, false, eqb, List, length, take, Ok, Err, sym, refl, ap, subst}
+use Rattle.std.proofs.lemmas.Bool.{and_parts, both_ways, eqb-true}
 use Rattle.block.specs.Meaning.{Meaning}
 use Rattle.script.specs.declared.command.Command.TheVariants as command
 use Rattle.sheet.specs.declared.wiring.Wiring.{Wiring}
 use Rattle.station.specs.declared.station.Station.{Station}
 use Rattle.station.specs.declared.refusal.LoadRefusal.TheVariants.{Lent, Sheet}
 use Rattle.station.specs.Calls.{Effect, Steps, Stops, Leaves, effect, sizes_allowed}
-use Rattle.station.specs.Histories.{History, FollowsRules, Fits}
+use Rattle.station.specs.Histories.{History, Fits}
 use Rattle.station.specs.Image.{table_size, outputs_size}
 use Rattle.station.specs.Stations.{CallLeaves, LeavesAll}
-use Rattle.station.proofs.Promises.{fits_promised}
 use Rattle.desk.specs.declared.answer.Reply.{Reply}
-use Rattle.desk.specs.declared.answer.Reply.TheVariants.{Loaded, Scanned, Halted, Reported, Needs}
-use Rattle.desk.specs.declared.desk.Desk.{Desk}
 use Rattle.desk.specs.declared.request.Call.{Call}
 use Rattle.desk.specs.declared.request.Call.TheVariants.{Load, Command}
-use Rattle.desk.specs.Calls.{Called, Outcome, accepted, as_history}
-use Rattle.desk.specs.Desks.{lent, KeepsRest}
-use Rattle.desk.proofs.Lent.{own_part, same_parts}
+use Rattle.desk.specs.Calls.{Outcome, accepted, as_history}
+use Rattle.desk.specs.Desks.{lent}
+use Rattle.desk.proofs.Lent.{own_part}
 
 -- with wrong sizes no call does anything
 pub no_effect : (c : Call) (blocks bytes : ℕ) → sizes_allowed blocks bytes ≡ false → effect (as_history c blocks bytes) ≡ Leaves

@@ -1,5 +1,5 @@
 -- Every past that fits goes on through a request, and the promises hold then.
-use Rattle.std.proofs.Common.{◌≡◌, ℕ, Bool, true, false, ◌⊎◌, List, [], ◌∷◌, ◌++◌, length, take, drop, Some, None, Ok, Err, MatchBool, Option, sym, refl, ap, ◌∙◌, subst, inl, inr, ⊎_elim}
+use Rattle.std.proofs.Common.{◌≡◌, ℕ, Bool, true, false, List, [], ◌∷◌, length, take, Some, None, Ok, Err, MatchBool, sym, refl, ap, ◌∙◌, subst, ⊎_elim}
 use Rattle.std.proofs.lemmas.Bool.{both_ways, cases_Bool}
 use Rattle.block.specs.Laws.{StepLaws}
 use Rattle.block.specs.Meaning.{Meaning}
@@ -10,7 +10,6 @@ use Rattle.station.specs.Calls.{sizes_allowed}
 use Rattle.station.specs.Histories.{History, FollowsRules, Fits}
 use Rattle.station.specs.Image.{table_size, outputs_size}
 use Rattle.station.proofs.Promises.{fits_promised}
-use Rattle.desk.specs.declared.answer.Answer.{Answer}
 use Rattle.desk.specs.declared.answer.Reply.{Reply}
 use Rattle.desk.specs.declared.desk.Desk.{Desk}
 use Rattle.desk.specs.declared.request.Call.{Call}
@@ -19,7 +18,7 @@ use Rattle.desk.specs.declared.request.Request.{Request}
 use Rattle.desk.specs.declared.request.Request.TheVariants as request
 use Rattle.desk.specs.Calls.{Called, Outcome, accepted, as_history}
 use Rattle.desk.specs.Desks.{lent, KeepsRest, Lends}
-use Rattle.desk.specs.Pasts.{Past, Fresh, Since, Begins, FitsPast, KeepsPromises, PastGoesOn, begins, calls_of, longer}
+use Rattle.desk.specs.Pasts.{Past, Fresh, Since, Begins, FitsPast, KeepsPromises, PastGoesOn, calls_of, longer}
 use Rattle.desk.proofs.Lent.{same_parts}
 use Rattle.desk.proofs.Pasting.{no_effect, leaves_all, keeps_wiring, lent_fits, own_fits}
 

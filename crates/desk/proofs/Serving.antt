@@ -1,5 +1,5 @@
 -- A call on the first part of what lies on the desk.
-use Rattle.std.proofs.Common.{◌≡◌, ℕ, ◌-◌, min, List, ◌++◌, length, take, None, sym, refl, ap, ◌∙◌, subst}
+use Rattle.std.proofs.Common.{◌≡◌, ℕ, ◌-◌, min, List, ◌++◌, length, take, None, sym, refl, subst}
 use borrow.Rule.Slice.PartMut.{post_of}
 use Rattle.block.specs.Laws.{StepLaws}
 use Rattle.block.specs.Meaning.{Meaning}

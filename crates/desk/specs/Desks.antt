@@ -1,5 +1,5 @@
 -- What a request at a desk leaves of the station and of the memory beside it.
-use Rattle.std.specs.Prelude.{◌≡◌, ℕ, List, [], ◌∷◌, length, take, drop, Some, None, Option, slice_index}
+use Rattle.std.specs.Prelude.{◌≡◌, ℕ, List, [], ◌∷◌, take, drop, Some, None, Option, slice_index}
 use Rattle.block.specs.Meaning.{Meaning}
 use Rattle.desk.specs.declared.answer.Answer.{Answer}
 use Rattle.desk.specs.declared.answer.Reply.{Reply}

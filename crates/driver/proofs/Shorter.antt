@@ -1,5 +1,5 @@
 -- What follows a line is shorter than what stood before it.
-use Rattle.std.proofs.Common.{◌≡◌, ℕ, ◌<◌, List, [], ◌∷◌, ◌++◌, length, ap, ◌∙◌, inl, inr, arith, length-append}
+use Rattle.std.proofs.Common.{ℕ, ◌<◌, List, ◌∷◌, length, ap, ◌∙◌, inl, inr, arith, length-append}
 use Rattle.script.specs.Characters.{line_feed}
 use Rattle.script.specs.Lines.{NextLine}
 

@@ -1,5 +1,5 @@
 -- A command has two words at most after its keyword.
-use Rattle.std.proofs.Common.{◌≡◌, ℕ, ◌≤◌, List, [], ◌∷◌, length, ap, arith}
+use Rattle.std.proofs.Common.{ℕ, ◌≤◌, List, [], ◌∷◌, length, ap, arith}
 use Rattle.script.specs.declared.keywords.Keyword.{Keyword}
 use Rattle.script.specs.declared.keywords.Keyword.TheVariants.{Load, Scan, Halt, Report, Needs, Blocks, Bytes}
 use Rattle.script.specs.Readings.{Reading}

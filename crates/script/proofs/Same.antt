@@ -1,15 +1,15 @@
 -- A line says one thing.
-use Rattle.std.proofs.Common.{◌≡◌, ℕ, cond, eqb, ◌⊎◌, List, [], ◌∷◌, length, get_or, sym, refl, ap, ◌∙◌, subst, inl, inr, arith}
+use Rattle.std.proofs.Common.{◌≡◌, ℕ, cond, eqb, List, [], ◌∷◌, length, get_or, sym, refl, ap, ◌∙◌, subst, inl, inr, arith}
 use Rattle.std.proofs.lemmas.List.{ext_get_or}
 use Rattle.values.specs.Cut.{join_at}
 use Rattle.values.proofs.Glue.{join_cut}
 use Rattle.script.specs.declared.keywords.Keyword.{Keyword}
 use Rattle.script.specs.declared.keywords.Keyword.TheVariants.{Load, Scan, Halt, Report, Needs, Blocks, Bytes}
-use Rattle.script.specs.Hex.{HexDigit, HexByte, PairsWritten, ImageWritten}
+use Rattle.script.specs.Hex.{HexDigit, HexByte, ImageWritten}
 use Rattle.script.specs.Keywords.{keyword_text}
 use Rattle.script.specs.Numbers.{NumberWritten}
 use Rattle.script.specs.Readings.{Reading}
-use Rattle.script.specs.Says.{OneNumber, SizeSaid, SaysNumber, Means, PassedOver, Commands}
+use Rattle.script.specs.Says.{SizeSaid, SaysNumber, Means, PassedOver, Commands}
 use Rattle.script.specs.Theorems.{OneReading}
 
 -- the keyword by its letters

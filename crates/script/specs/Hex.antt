@@ -1,5 +1,5 @@
 -- How an image is written: two hexadecimal digits a byte, byte 0 first.
-use Rattle.std.specs.Prelude.{◌≡◌, ℕ, ◌+◌, ◌*◌, ◌%◌, ◌<◌, ◌≤◌, ◌⊎◌, List, [], ◌∷◌, length, codes, slice_index}
+use Rattle.std.specs.Prelude.{◌≡◌, ℕ, ◌+◌, ◌*◌, ◌%◌, ◌<◌, ◌≤◌, ◌⊎◌, List, [], length, codes, slice_index}
 use Rattle.script.specs.Characters.{digit_zero, capital_a, small_a}
 use Rattle.script.specs.Limits.{image_limit}
 

@@ -1,5 +1,5 @@
 -- What may name a file.
-use Rattle.std.specs.Prelude.{◌≡◌, ℕ, ◌≤◌, List, length, ◌≢◌}
+use Rattle.std.specs.Prelude.{ℕ, ◌≤◌, List, length, ◌≢◌}
 use Rattle.std.specs.List.{AllByRecursion as All}
 use Rattle.script.specs.Characters.{line_feed, carriage_return}
 

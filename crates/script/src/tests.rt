@@ -13,7 +13,7 @@ fn scan_has_its_bytes_first_byte_first(rt: HostRuntime) -> Result<(), Fail> {
     let Some(Line::Command(Command::Scan { image, elapsed })) = read_line(b"scan 0aFf 0012") else {
         return Err(Fail::new("no scan"));
     };
-    assert!(rt; image.bytes() == &[10, 255]);
+    assert!(rt; image.bytes() == [10, 255].as_slice());
     assert!(rt; elapsed == 12);
     Ok(())
 }
@@ -46,6 +46,8 @@ fn spaces_and_returns_are_exact(rt: HostRuntime) {
 fn last_line_may_lack_its_line_feed(rt: HostRuntime) -> Result<(), Fail> {
     let (first, rest) = next_line(b"halt\nbytes 2").ok_or("no line")?;
     let (second, left) = next_line(rest).ok_or("no line")?;
-    assert!(rt; first == b"halt" && second == b"bytes 2" && next_line(left).is_none());
+    assert!(rt;
+        first == b"halt".as_slice() && second == b"bytes 2".as_slice() && next_line(left).is_none()
+    );
     Ok(())
 }

@@ -8,7 +8,6 @@ use Rattle.sheet.specs.declared.fault.RowFault.TheVariants.{Text}
 use Rattle.sheet.specs.declared.fault.TextFault.TheVariants.{Trailing}
 use Rattle.sheet.specs.declared.fault.WiringFault.{WiringFault}
 use Rattle.sheet.specs.declared.fault.WiringFault.TheVariants as fault
-use Rattle.sheet.specs.declared.row.Row.{Row}
 use Rattle.sheet.specs.declared.wiring.Wiring.{Wiring}
 use Rattle.sheet.specs.Form.{lines_of}
 use Rattle.sheet.specs.Lines.{pieces, start}

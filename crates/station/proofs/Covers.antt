@@ -1,5 +1,5 @@
 -- A row needs a terminal exactly if its mask has it.
-use Rattle.std.proofs.Common.{◌≡◌, ℕ, ◌+◌, ◌<◌, Bool, true, false, ◌&&◌, ◌||◌, ◌⊎◌, ◌↔◌, List, get_or, sym, refl, ap, ◌∙◌, subst, inl, inr, ⊎_elim, arith, rules}
+use Rattle.std.proofs.Common.{◌≡◌, ℕ, ◌+◌, ◌<◌, Bool, true, false, ◌&&◌, ◌||◌, ◌↔◌, List, get_or, sym, refl, ap, ◌∙◌, inl, inr, ⊎_elim, arith}
 use lib.Bits.{bit_or}
 use Rattle.std.proofs.lemmas.Bool.{and_from, and_parts, both_ways, cases_Bool, cases_eq, or_cases, or_left, or_right}
 use Rattle.block.specs.declared.types.Word.{Word}
@@ -7,7 +7,6 @@ use Rattle.sheet.specs.declared.row.Row.{Row}
 use Rattle.station.specs.Image.{bit_at}
 use Rattle.station.specs.Masks.{word_number, pins_cover, PinMasks}
 use Rattle.station.specs.Needs.{terminals, source_needs, OffWhereNeeded, RowNeeds}
-use Rattle.station.specs.Rows.{pin}
 use Rattle.station.proofs.Masks.{or_bit}
 
 -- a mask of the words below n: those that are clear cover the terminal

@@ -1,23 +1,21 @@
 -- A call that leaves what its effect says takes a station that fits a history to one that fits the longer history.
-use Rattle.std.proofs.Common.{◌≡◌, ℕ, zero, suc, ◌/◌, ◌%◌, ◌^◌, ◌<◌, ◌≤◌, Bool, true, false, ◌&&◌, eqb, ltb, List, [], ◌∷◌, length, get_or, Some, sym, refl, ap, ◌∙◌, subst, inl, inr, ⊎_elim, arith}
+use Rattle.std.proofs.Common.{◌≡◌, ℕ, zero, suc, ◌/◌, ◌%◌, ◌^◌, ◌<◌, Bool, false, ◌&&◌, eqb, ltb, List, ◌∷◌, length, get_or, sym, refl, ap, ◌∙◌, subst, ⊎_elim, arith}
 use native.Mathlib.Nat.{zero-div}
-use Rattle.std.proofs.lemmas.Bool.{cases_lt, cases_Bool, ltb-true, both_ways}
-use Rattle.block.specs.declared.types.Mode.{Mode}
-use Rattle.block.specs.declared.types.Mode.TheVariants.{Idle}
+use Rattle.std.proofs.lemmas.Bool.{cases_lt, cases_Bool, ltb-true}
 use Rattle.block.specs.Laws.{StepLaws}
 use Rattle.block.specs.Meaning.{Meaning}
 use Rattle.block.specs.Modes.{is_on}
 use Rattle.sheet.specs.declared.wiring.Wiring.{Wiring}
 use Rattle.sheet.specs.Wires.{listed, routed}
 use Rattle.station.specs.declared.station.Station.{Station}
-use Rattle.station.specs.Calls.{Call, Effect, Steps, Stops, Leaves, effect}
+use Rattle.station.specs.Calls.{Call, Steps, Stops, Leaves, effect}
 use Rattle.station.specs.Histories.{History, FollowsRules, Fits, image_after, remembered}
-use Rattle.station.specs.Image.{bit_at, bit_of, no_outputs, outputs_size}
+use Rattle.station.specs.Image.{bit_at, bit_of, no_outputs}
 use Rattle.station.specs.Outputs.{output_on, Shows}
 use Rattle.station.specs.Rows.{input_of, halt_input, row_at}
 use Rattle.station.specs.Scans.{at, on_in, Scanned, Halted}
 use Rattle.station.specs.Stations.{rows_in, outs_in, ScanLeaves, HaltLeaves, LeavesAll, CallLeaves}
-use Rattle.station.proofs.Effects.{Accepted, cases_effect}
+use Rattle.station.proofs.Effects.{cases_effect}
 use Rattle.station.proofs.Local.{input_local}
 use Rattle.station.proofs.Wiring.{wiring_wired, wiring_outs}
 

@@ -1,12 +1,12 @@
 -- A row sees the earlier rows alone, so a scan in order is a scan.
-use Rattle.std.proofs.Common.{◌≡◌, ℕ, ◌+◌, ◌<◌, ◌≤◌, Bool, true, ◌≢◌, ◌⊎◌, List, length, get_or, set, sym, refl, ap, ◌∙◌, inl, inr, ⊎_elim, add-one, arith, get_or-set_other, get_or-set_same, rules}
+use Rattle.std.proofs.Common.{◌≡◌, ℕ, ◌+◌, ◌<◌, ◌≤◌, Bool, true, ◌≢◌, List, length, set, sym, refl, ap, ◌∙◌, ⊎_elim, arith, get_or-set_other, get_or-set_same}
 use Rattle.std.proofs.lemmas.Bool.{cases_eq, ltb-true}
 use Rattle.block.specs.Meaning.{Meaning}
 use Rattle.sheet.specs.declared.row.Row.{Row}
 use Rattle.sheet.specs.Wired.{source_wired}
 use Rattle.values.specs.declared.source.Source.{Source}
 use Rattle.values.specs.declared.source.Source.TheVariants as source
-use Rattle.station.specs.Rows.{source_on, word_of, pin, input_of, row_at, blank_setup}
+use Rattle.station.specs.Rows.{source_on, pin, input_of, row_at, blank_setup}
 use Rattle.station.specs.Scans.{at, on_in, StepsRow, KeepsBlock}
 use Rattle.station.specs.Wires.{Wired, WiredRow}
 

@@ -1,5 +1,5 @@
 -- What a row that is on needs was on.
-use Rattle.std.proofs.Common.{◌≡◌, ℕ, zero, suc, ◌<◌, Bool, true, false, ◌⊎◌, List, [], ◌∷◌, length, sym, refl, ap, ◌∙◌, inl, ⊎_elim, arith}
+use Rattle.std.proofs.Common.{◌≡◌, ℕ, zero, suc, ◌<◌, Bool, true, false, List, [], ◌∷◌, length, sym, refl, ap, ◌∙◌, inl, ⊎_elim, arith}
 use Rattle.std.proofs.lemmas.Bool.{both_ways, cases_Bool, eqb-true, ltb-true}
 use Rattle.block.specs.declared.types.Mode.{Mode}
 use Rattle.block.specs.declared.types.Mode.TheVariants.{Idle, Off, Waiting, On, Fault}
@@ -19,7 +19,7 @@ use Rattle.station.specs.Needs.{source_needs, Needs, made_clear, terminals, WasO
 use Rattle.station.specs.Releases.{step_of}
 use Rattle.station.specs.Rows.{source_on, pin, row_at}
 use Rattle.station.specs.Scans.{on_in}
-use Rattle.station.proofs.Effects.{Accepted, cases_effect}
+use Rattle.station.proofs.Effects.{cases_effect}
 use Rattle.station.proofs.Releases.{idle_not_on, on_not_stopped}
 use Rattle.station.proofs.Wiring.{wiring_wired}
 

@@ -1,12 +1,12 @@
 -- What fits a history keeps the promises, and every call goes on.
-use Rattle.std.proofs.Common.{◌≡◌, ℕ, Bool, true, ◌&&◌, ltb, List, length, get_or, sym, ap, ◌∙◌, subst, arith}
+use Rattle.std.proofs.Common.{ℕ, ltb, List, length, get_or, sym, ap, ◌∙◌, subst}
 use Rattle.std.proofs.lemmas.Bool.{and_parts, ltb-true}
 use Rattle.block.specs.Laws.{StepLaws}
 use Rattle.block.specs.Meaning.{Meaning}
 use Rattle.sheet.specs.declared.wiring.Wiring.{Wiring}
-use Rattle.sheet.specs.Wires.{listed, routed}
+use Rattle.sheet.specs.Wires.{routed}
 use Rattle.station.specs.declared.station.Station.{Station}
-use Rattle.station.specs.Calls.{Call, Effect, Leaves, effect}
+use Rattle.station.specs.Calls.{Call, Effect, effect}
 use Rattle.station.specs.Histories.{History, FollowsRules, Fits}
 use Rattle.station.specs.Promises.{Promised, Goes_on, PromisesKept}
 use Rattle.station.specs.Scans.{on_in}

@@ -1,5 +1,5 @@
 -- A latched row is on if and only if a release of it stands.
-use Rattle.std.proofs.Common.{◌≡◌, ℕ, zero, suc, ◌<◌, true, false, ◌⊎◌, [], ◌∷◌, length, sym, refl, ap, ◌∙◌, inl, inr, ⊎_elim, arith}
+use Rattle.std.proofs.Common.{◌≡◌, ℕ, zero, suc, ◌<◌, true, ◌⊎◌, [], ◌∷◌, length, sym, refl, ap, ◌∙◌, inl, inr, ⊎_elim, arith}
 use Rattle.std.proofs.lemmas.Bool.{both_ways, cases_Bool}
 use Rattle.block.specs.declared.types.Mode.{Mode}
 use Rattle.block.specs.declared.types.Mode.TheVariants.{Idle, Off, Waiting, On, Fault}
@@ -9,7 +9,7 @@ use Rattle.sheet.specs.declared.wiring.Wiring.{Wiring}
 use Rattle.sheet.specs.Wires.{listed}
 use Rattle.station.specs.Calls.{Call, Stops, effect}
 use Rattle.station.specs.Histories.{History, FollowsRules}
-use Rattle.station.specs.Releases.{step_of, ReleasedBy, FoundOff, WithdrawnBy, AtCall, StandsReleased, OnByRelease}
+use Rattle.station.specs.Releases.{step_of, ReleasedBy, WithdrawnBy, AtCall, StandsReleased, OnByRelease}
 use Rattle.station.specs.Rows.{halt_input}
 use Rattle.station.proofs.Effects.{Accepted, cases_effect}
 

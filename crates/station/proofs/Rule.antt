@@ -1,6 +1,6 @@
 -- The rule of needs: a row sees the earlier rows alone, so the masks of a loop keep it, and it has one list.
-use Rattle.std.proofs.Common.{◌≡◌, ℕ, zero, suc, ◌+◌, ◌<◌, ◌≤◌, Bool, true, false, ◌≢◌, ◌⊎◌, ◌↔◌, List, length, get_or, set, sym, refl, ap, ◌∙◌, subst, inl, inr, ⊎_elim, arith, get_or-set_other, get_or-set_same}
-use Rattle.std.proofs.lemmas.Bool.{both_ways, cases_Bool, cases_eq, ltb-true}
+use Rattle.std.proofs.Common.{◌≡◌, ℕ, zero, suc, ◌+◌, ◌<◌, ◌≤◌, Bool, true, false, ◌≢◌, ◌↔◌, List, length, get_or, set, sym, refl, ap, ◌∙◌, subst, inl, inr, ⊎_elim, arith, get_or-set_other, get_or-set_same}
+use Rattle.std.proofs.lemmas.Bool.{cases_Bool, cases_eq, ltb-true}
 use Rattle.block.specs.declared.types.Word.{Word}
 use Rattle.sheet.specs.declared.row.Row.{Row}
 use Rattle.sheet.specs.Wired.{source_wired}
@@ -8,7 +8,7 @@ use Rattle.values.specs.declared.source.Source.{Source}
 use Rattle.values.specs.declared.source.Source.TheVariants as source
 use Rattle.station.specs.Image.{bit_at}
 use Rattle.station.specs.Masks.{masked}
-use Rattle.station.specs.Needs.{terminals, source_needs, OffWhereNeeded, RowNeeds, Needs, ListsNeeds}
+use Rattle.station.specs.Needs.{terminals, source_needs, RowNeeds, Needs, ListsNeeds}
 use Rattle.station.specs.Rows.{pin, row_at}
 use Rattle.station.specs.Wires.{Wired, WiredRow}
 use Rattle.station.proofs.Masks.{same_bits}

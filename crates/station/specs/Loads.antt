@@ -1,7 +1,6 @@
 -- What a loading leaves and answers.
-use Rattle.std.specs.Prelude.{◌≡◌, ℕ, ◌<◌, ◌≤◌, true, false, List, [], length, Some, Ok, Err, Result}
+use Rattle.std.specs.Prelude.{◌≡◌, ℕ, true, false, List, [], length, Some, Ok, Err, Result}
 use Rattle.block.specs.Meaning.{Meaning}
-use Rattle.sheet.specs.declared.row.Row.{Row}
 use Rattle.sheet.specs.declared.wiring.Wiring.{Wiring}
 use Rattle.sheet.specs.Loads.{text, Refused}
 use Rattle.sheet.specs.Wires.{listed}

@@ -1,6 +1,6 @@
 -- What the output bytes show.
 use Rattle.std.specs.Prelude.{◌≡◌, ℕ, ◌<◌, Bool, ◌&&◌, List, length, nat_lt, slice_index}
-use Rattle.station.specs.Image.{bit_of, outputs_size}
+use Rattle.station.specs.Image.{bit_of}
 
 -- an output shows its row; a bit that no output has is 0
 abbrev pub output_on : List ℕ → (ℕ → Bool) → ℕ → Bool

@@ -1,5 +1,5 @@
 -- The text of a row report.
-use Rattle.std.specs.Prelude.{◌≡◌, ℕ, ◌+◌, ◌/◌, ◌%◌, Bool, true, false, cond, List, [], ◌∷◌, ◌++◌, length, drop, codes, nat_lt}
+use Rattle.std.specs.Prelude.{◌≡◌, ℕ, ◌+◌, ◌/◌, ◌%◌, Bool, cond, List, [], ◌∷◌, ◌++◌, length, drop, codes, nat_lt}
 use Rattle.block.specs.declared.types.Mode.{Mode}
 use Rattle.block.specs.Codes.{number_of, ready_of, error_of}
 use Rattle.block.specs.Meaning.{Meaning}

@@ -1,5 +1,5 @@
 -- What a scan brings a row: its sources, its word and its step.
-use Rattle.std.specs.Prelude.{ℕ, Bool, true, false, List, [], ◌∷◌, replicate, Some, None, Option, slice_index_or, refl}
+use Rattle.std.specs.Prelude.{ℕ, Bool, true, false, List, replicate, Some, None, Option, slice_index_or, refl}
 use Rattle.block.specs.declared.settings.Settings.{Settings}
 use Rattle.block.specs.declared.setup.Setup.{Setup}
 use Rattle.block.specs.declared.times.Times.{Times}

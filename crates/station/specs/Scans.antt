@@ -1,5 +1,5 @@
 -- What a scan and a halt do to the blocks of the rows. A table is seen as a function of the row number.
-use Rattle.std.specs.Prelude.{◌≡◌, ℕ, zero, suc, ◌<◌, ◌≤◌, Bool, cond, List, length, slice_index_or}
+use Rattle.std.specs.Prelude.{◌≡◌, ℕ, ◌<◌, ◌≤◌, Bool, List, length, slice_index_or}
 use Rattle.block.specs.Meaning.{Meaning}
 use Rattle.block.specs.Modes.{is_on}
 use Rattle.sheet.specs.declared.row.Row.{Row}

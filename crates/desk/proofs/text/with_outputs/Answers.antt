@@ -1,4 +1,4 @@
-use Rattle.std.proofs.Common.{◌≡◌, [], ◌∷◌, ◌++◌, get_or, vec_items, codes, rules}
+use Rattle.std.proofs.Common.{◌≡◌, ◌++◌, get_or, vec_items, codes, rules}
 use Rattle.desk.specs.Answers.{hex_text}
 use Rattle.desk.proofs.Hex.{four_parts}
 use Rattle.desk.proofs.text.with_outputs.Goals as goal

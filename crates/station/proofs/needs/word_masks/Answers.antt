@@ -1,4 +1,4 @@
-use Rattle.std.proofs.Common.{◌≡◌, ℕ, ◌+◌, Bool, true, ◌&&◌, ◌↔◌, sym, ap, ◌∙◌, subst, arith, rules}
+use Rattle.std.proofs.Common.{◌≡◌, ℕ, ◌+◌, Bool, true, ◌&&◌, ◌↔◌, sym, ap, ◌∙◌, subst, arith}
 use Rattle.block.specs.Of.{meaning}
 use Rattle.station.specs.Image.{bit_at}
 use Rattle.station.specs.Masks.{word_number, pins_cover}

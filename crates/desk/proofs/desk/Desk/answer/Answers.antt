@@ -1,10 +1,9 @@
-use Rattle.std.proofs.Common.{◌≡◌, ℕ, min, List, [], ◌∷◌, length, get_or, take, Some, sym, refl, ap, ◌∙◌, rules}
+use Rattle.std.proofs.Common.{◌≡◌, ℕ, min, List, [], ◌∷◌, length, get_or, Some, sym, refl, ap, ◌∙◌, rules}
 use Rattle.std.proofs.lemmas.List.{length-take}
 use Rattle.block.specs.Laws.{StepLaws}
 use Rattle.block.specs.Of.{meaning}
-use Rattle.desk.specs.declared.answer.Answer.{Answer}
 use Rattle.desk.specs.Desks.{shown, lent}
-use Rattle.desk.proofs.Lent.{first_lent, first_after, rest_after}
+use Rattle.desk.proofs.Lent.{first_after, rest_after}
 use Rattle.desk.proofs.Pastings.{call_goes_on}
 use Rattle.desk.proofs.Serving.{returned, called_first}
 use Rattle.desk.proofs.desk.Desk.answer.Given as given

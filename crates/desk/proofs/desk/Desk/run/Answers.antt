@@ -1,4 +1,4 @@
-use Rattle.std.proofs.Common.{◌≡◌, List, take, vec_items, sym, ap, subst, arith, take_all, rules}
+use Rattle.std.proofs.Common.{List, vec_items, subst, take_all, rules}
 use Rattle.block.specs.Of.{meaning}
 use Rattle.desk.specs.declared.answer.Answer.{Answer}
 use Rattle.desk.specs.declared.request.Request.{Request}

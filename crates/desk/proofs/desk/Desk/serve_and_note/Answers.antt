@@ -1,4 +1,4 @@
-use Rattle.std.proofs.Common.{◌≡◌, [], ◌++◌, Some, None, vec_items, sym, rules}
+use Rattle.std.proofs.Common.{Some, None, vec_items, sym, rules}
 use Rattle.std.proofs.lemmas.List.{append-nil}
 use Rattle.block.specs.Of.{meaning}
 use Rattle.desk.specs.Runs.{Turn, scene}

@@ -1,4 +1,4 @@
-use Rattle.std.proofs.Common.{◌≡◌, ℕ, min, List, length, take, replicate, refl, ◌∙◌, arith, rules}
+use Rattle.std.proofs.Common.{◌≡◌, min, length, take, replicate, ◌∙◌, arith}
 use Rattle.std.proofs.lemmas.List.{length-take-le}
 use Rattle.block.specs.Of.{meaning}
 use Rattle.desk.proofs.Held.{report_held}

@@ -1,4 +1,4 @@
-use Rattle.std.proofs.Common.{◌≡◌, ℕ, List, length, take, sym, ◌∙◌, subst, rules}
+use Rattle.std.proofs.Common.{◌≡◌, ℕ, List, length, take, sym, subst, rules}
 use Rattle.block.specs.Of.{meaning}
 use Rattle.station.specs.Reads.{ReportOutcome}
 use Rattle.desk.proofs.Lent.{lent_part, part_after}

@@ -1,9 +1,8 @@
-use Rattle.std.proofs.Common.{◌≡◌, true, false, length, sym, refl, subst, rules}
+use Rattle.std.proofs.Common.{◌≡◌, true, false, length, refl, rules}
 use Rattle.block.specs.Laws.{StepLaws}
 use Rattle.block.specs.Of.{meaning}
 use Rattle.station.specs.Calls.{sizes_allowed}
 use Rattle.station.proofs.Loading.{load_refused, load_begins}
-use Rattle.station.proofs.Wiring.{wiring_few}
 use Rattle.station.proofs.station.Station.load.Given as given
 use Rattle.station.proofs.station.Station.load.Goals as goal
 

@@ -1,4 +1,4 @@
-use Rattle.std.proofs.Common.{◌≡◌, ℕ, ◌<◌, true, false, eqb, ltb, List, length, get_or, sym, ap, ◌∙◌, subst, rules}
+use Rattle.std.proofs.Common.{◌≡◌, ℕ, ◌<◌, true, false, eqb, ltb, List, length, get_or, sym, subst, rules}
 use Rattle.std.proofs.lemmas.Bool.{ltb-true}
 use Rattle.block.specs.Laws.{StepLaws}
 use Rattle.block.specs.Of.{meaning}

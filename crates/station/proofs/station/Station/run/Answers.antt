@@ -1,4 +1,4 @@
-use Rattle.std.proofs.Common.{length, take_all, rules}
+use Rattle.std.proofs.Common.{length, take_all}
 use Rattle.block.specs.Of.{meaning}
 use Rattle.station.proofs.Running.{ran_request}
 use Rattle.station.proofs.station.Station.run.Goals as goal

@@ -1,4 +1,4 @@
-use Rattle.std.proofs.Common.{◌≡◌, map, length, take}
+use Rattle.std.proofs.Common.{map, length, take}
 use Rattle.block.specs.Of.{meaning}
 use Rattle.station.specs.Runs.{Ran, call_of}
 use Rattle.station.proofs.station.Station.run.Given as goal
