@@ -25,8 +25,10 @@ IMPORT = re.compile(r"^\s*(?:pub )?(?:ghost )?use ([\w.+'-]+)\.\{([^}]*)\}", re.
 LEMMAS = {n: n.replace("-", "_") + "_lem" for n in ("one-reading", "one-verdict", "one-wiring", "rules-in-order", "texts-are-short")}
 # A name that stands already as the folder of a method's proof, and nowhere as a name.
 FOLDERS = {"comes-on"}
+# A record whose name the kit's scripts took for a word, as a name of the library was spelled like it.
+RECORDS = {"Goes-on": "GoesOn", "Goes_on": "GoesOn"}
 # Goals and steps that the check names, and the parts of their names.
-MADE = re.compile(r"^(?:returns|loop|in|if|then|else|overflow|invariant|decreases|ghost|the|from|bounds|index|match|copy|extend)-|-(?:requires|init|preserved|smaller|index|item|test|law)$")
+MADE = re.compile(r"^(?:returns|loop|in|if|then|else|overflow|nonzero|bounds|slice_bounds|invariant|decreases|ghost|the|from|index|match|copy|extend)(?:_\w+?)?-|-(?:requires|init|preserved|smaller|index|item|test|law)$")
 
 
 def files(root, endings):
@@ -82,6 +84,7 @@ def spelled(name):
 
 
 def turned(text, names):
+    text = re.sub(r"\bGoes_on\b", RECORDS["Goes_on"], text)
     return TOKEN.sub(lambda m: names.get(m[0], m[0]), text)
 
 
@@ -110,6 +113,8 @@ def fallen_together(names, texts):
     seen, bad = {}, []
     for old in sorted(names):
         new = names[old]
+        if old in RECORDS:
+            continue
         if new in seen:
             bad.append(f"{old} and {seen[new]} would both be {new}")
         if new in taken and old not in FOLDERS:
@@ -120,7 +125,7 @@ def fallen_together(names, texts):
 
 def main(argv):
     texts = {p: read(p) for p in files("crates", (".antt", ".rt", ".edit"))}
-    names = {n: spelled(n) for n in own_names(texts)}
+    names = {n: spelled(n) for n in own_names(texts)} | RECORDS
     bad = fallen_together(names, texts)
     if argv == ["--list"]:
         for old in sorted(names):
@@ -136,7 +141,7 @@ def main(argv):
         if new != text:
             with open(path, "w", encoding="utf-8") as f:
                 f.write(new)
-    print(f"{len(names)} names")
+    print(f"{len(names) - len(RECORDS)} names, and {RECORDS['Goes-on']}")
     return 0
 
 

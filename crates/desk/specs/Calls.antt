@@ -14,7 +14,7 @@ use Rattle.station.specs.declared.refusal.Refusal.{Refusal}
 use Rattle.station.specs.declared.station.Station.{Station}
 use Rattle.station.specs.Calls as history
 use Rattle.station.specs.Loads.{LoadOutcome}
-use Rattle.station.specs.Promises.{Goes_on}
+use Rattle.station.specs.Promises.{GoesOn}
 use Rattle.station.specs.Reads.{NeedsOutcome}
 use Rattle.station.specs.Stations.{CallLeaves, LeavesAll}
 
@@ -51,4 +51,4 @@ module _ {B : Type 0} (m : Meaning B) where
   -- a call: its outcome, and that every history goes on through it unless it begins one
   pub record Called (c : Call) (a : Reply) (s s' : Station) (t t' : List B) (o o' : List ℕ) : Type 0 where
     pub outcome : Outcome c a s s' t t' o o'
-    pub history : accepted a ≡ false → Goes_on m (as_history c (length t) (length o)) s s' t t' o o'
+    pub history : accepted a ≡ false → GoesOn m (as_history c (length t) (length o)) s s' t t' o o'

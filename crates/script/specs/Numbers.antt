@@ -1,6 +1,6 @@
 -- How a number is written: one or more decimal digits, with leading zeros or without.
 use Rattle.std.specs.Prelude.{◌≡◌, ℕ, ◌+◌, ◌-◌, ◌*◌, ◌≤◌, List, [], ◌∷◌, length}
-use Rattle.std.specs.List.{AllByRecursion as All}
+use Rattle.std.specs.List.{AllByRecursion}
 use Rattle.script.specs.Characters.{digit_zero, digit_nine}
 
 -- the byte is a digit from 0 to 9
@@ -14,4 +14,4 @@ value_after n (c ∷ cs) = value_after (10 * n + (c - digit_zero)) cs
 
 -- s writes the number n, which is at most the limit
 abbrev pub NumberWritten : ℕ → List ℕ → ℕ → Type 0
-NumberWritten limit s n = (1 ≤ length s) × All Digit s × (n ≡ value_after 0 s) × (n ≤ limit)
+NumberWritten limit s n = (1 ≤ length s) × AllByRecursion Digit s × (n ≡ value_after 0 s) × (n ≤ limit)

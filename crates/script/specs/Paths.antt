@@ -1,6 +1,6 @@
 -- What may name a file.
 use Rattle.std.specs.Prelude.{ℕ, ◌≤◌, List, length, ◌≢◌}
-use Rattle.std.specs.List.{AllByRecursion as All}
+use Rattle.std.specs.List.{AllByRecursion}
 use Rattle.script.specs.Characters.{line_feed, carriage_return}
 
 -- neither LF nor CR
@@ -9,4 +9,4 @@ InPath b = (b ≢ line_feed) × (b ≢ carriage_return)
 
 -- a path is a word, so that no space is in it
 abbrev pub Path : List ℕ → Type 0
-Path s = (1 ≤ length s) × All InPath s
+Path s = (1 ≤ length s) × AllByRecursion InPath s

@@ -8,7 +8,7 @@ use Rattle.sheet.specs.Wires.{routed}
 use Rattle.station.specs.declared.station.Station.{Station}
 use Rattle.station.specs.Calls.{Call, Effect, effect}
 use Rattle.station.specs.Histories.{History, FollowsRules, Fits}
-use Rattle.station.specs.Promises.{Promised, Goes_on, PromisesKept}
+use Rattle.station.specs.Promises.{Promised, GoesOn, PromisesKept}
 use Rattle.station.specs.Scans.{on_in}
 use Rattle.station.specs.Stations.{CallLeaves, LeavesAll}
 use Rattle.station.proofs.Blocks.{fixed}
@@ -31,7 +31,7 @@ module _ {B : Type 0} (m : Meaning B) (laws : StepLaws m) where
         (λ on. r.0 (ap m.mode (sym same) ∙ on), λ stands. ap m.mode same ∙ r.1 stands);
   }
 
-  pub goes_on : (c : Call) (s s' : Station) (t t' : List B) (o o' : List ℕ) → CallLeaves m (effect c) s s' t t' o o' → Goes_on m c s s' t t' o o'
+  pub goes_on : (c : Call) (s s' : Station) (t t' : List B) (o o' : List ℕ) → CallLeaves m (effect c) s s' t t' o o' → GoesOn m c s s' t t' o o'
   goes_on c s s' t t' o o' d = record {
     fits = λ w f rules h fits. call_fits m laws w f rules c h s s' t t' o o' fits d;
     promised = λ w f rules h fits. fits_promised w f rules _ s' t' o' (call_fits m laws w f rules c h s s' t t' o o' fits d);

@@ -10,7 +10,7 @@ use Rattle.station.specs.declared.station.Station.{Station}
 use Rattle.station.specs.Calls.{Read, sizes_allowed}
 use Rattle.station.specs.Histories.{History, FollowsRules, Fits}
 use Rattle.station.specs.Image.{all_ones, no_outputs}
-use Rattle.station.specs.Promises.{Goes_on}
+use Rattle.station.specs.Promises.{GoesOn}
 use Rattle.station.specs.Rows.{setup_of, row_at}
 use Rattle.station.specs.Scans.{at, EachRow}
 use Rattle.station.specs.Stations.{LeavesAll}
@@ -33,7 +33,7 @@ pub record LoadLeaves {B : Type 0} (m : Meaning B) (sheet : List ℕ) (s' : Stat
 -- a refused loading leaves all as found, and is a call of the history that goes on
 pub record LoadRefused {B : Type 0} (m : Meaning B) (s s' : Station) (t t' : List B) (o o' : List ℕ) : Type 0 where
   pub leaves : LeavesAll s s' t t' o o'
-  pub history : Goes_on m Read s s' t t' o o'
+  pub history : GoesOn m Read s s' t t' o o'
 
 -- the outcome of a loading, by what it answers: the sizes are looked at first, then the sheet
 abbrev pub LoadOutcome : {B : Type 0} → Meaning B → Result (Unit {0}) LoadRefusal → (sheet : List ℕ) (s s' : Station) (t t' : List B) (o o' : List ℕ) → Type 0

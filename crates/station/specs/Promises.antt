@@ -19,7 +19,7 @@ pub record Promised {B : Type 0} (m : Meaning B) (w : Wiring) (f : History → �
   pub released : (k : ℕ) → k < length (listed w) → m.latched (at m table k) ≡ true → (m.mode (at m table k) ≡ On) ↔ StandsReleased m w f k h
 
 -- the call c takes every history that fits s, t and o on to s', t' and o'
-pub record Goes_on {B : Type 0} (m : Meaning B) (c : Call) (s s' : Station) (t t' : List B) (o o' : List ℕ) : Type 0 where
+pub record GoesOn {B : Type 0} (m : Meaning B) (c : Call) (s s' : Station) (t t' : List B) (o o' : List ℕ) : Type 0 where
   pub fits : (w : Wiring) (f : History → ℕ → B) → FollowsRules m w f → (h : History) → Fits m w f h s t o → Fits m w f (c ∷ h) s' t' o'
   pub promised : (w : Wiring) (f : History → ℕ → B) → FollowsRules m w f → (h : History) → Fits m w f h s t o → Promised m w f (c ∷ h) t' o'
   -- a call without effect may be lent another table and other bytes: the station's own then fit as before

@@ -10,14 +10,14 @@ use Rattle.station.specs.Calls.{Read}
 use Rattle.station.specs.Histories.{History, FollowsRules, Fits}
 use Rattle.station.specs.Image.{table_size}
 use Rattle.station.specs.Needs.{ListsNeeds, clear_in, made_clear}
-use Rattle.station.specs.Promises.{Goes_on}
+use Rattle.station.specs.Promises.{GoesOn}
 use Rattle.station.specs.Reports.{Written, report_text}
 use Rattle.station.specs.Scans.{at}
 use Rattle.station.specs.Stations.{rows_of, outs_of}
 
 -- reading is a call of every history like any other, and changes nothing
 abbrev pub Reads : {B : Type 0} → Meaning B → Station → List B → Type 0
-Reads m s t = (o : List ℕ) → Goes_on m Read s s t t o o
+Reads m s t = (o : List ℕ) → GoesOn m Read s s t t o o
 
 -- n is the needs list of an output, by the clear words of the blocks that the call is lent
 pub record NeedsTold {B : Type 0} (m : Meaning B) (s : Station) (t : List B) (output n : ℕ) : Type 0 where

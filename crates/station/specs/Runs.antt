@@ -5,7 +5,7 @@ use Rattle.station.specs.declared.request.Request.{Request}
 use Rattle.station.specs.declared.request.Request.TheVariants as request
 use Rattle.station.specs.declared.station.Station.{Station}
 use Rattle.station.specs.Calls.{Call, Scan, Halt, effect}
-use Rattle.station.specs.Promises.{Goes_on}
+use Rattle.station.specs.Promises.{GoesOn}
 use Rattle.station.specs.Stations.{CallLeaves}
 
 -- the call that a request makes, on so many blocks and output bytes
@@ -16,7 +16,7 @@ call_of blocks bytes request.Halt = Halt blocks bytes
 -- one call: what it leaves, and that every history goes on through it with both promises
 pub record Called {B : Type 0} (m : Meaning B) (c : Call) (s s' : Station) (t t' : List B) (o o' : List ℕ) : Type 0 where
   pub leaves : CallLeaves m (effect c) s s' t t' o o'
-  pub history : Goes_on m c s s' t t' o o'
+  pub history : GoesOn m c s s' t t' o o'
 
 -- the calls one after the other: between them the station, table and output bytes are those that the last call left
 abbrev pub Ran : {B : Type 0} → Meaning B → List Call → (s s' : Station) (t t' : List B) (o o' : List ℕ) → Type 0

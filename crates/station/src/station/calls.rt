@@ -4,7 +4,7 @@ ghost use Rattle.block.specs.Of.{meaning};
 ghost use Rattle.station.specs.Calls.{Scan, Halt, effect, scan_answer, halt_answer, elapsed_allowed, sizes_allowed};
 ghost use Rattle.station.specs.Image.{table_size, outputs_size};
 ghost use Rattle.station.specs.Loads.{LoadOutcome};
-ghost use Rattle.station.specs.Promises.{Goes_on};
+ghost use Rattle.station.specs.Promises.{GoesOn};
 ghost use Rattle.station.specs.Stations.{CallLeaves, HaltLeaves};
 
 use super::Station;
@@ -65,7 +65,7 @@ impl Station {
     ) -> Result<(), Refusal>
         ensures answer { result ≡ scan_answer (effect (Scan (length table.old) image.now elapsed (length outputs.old))) }
         ensures leaves { CallLeaves (meaning B.Block) (effect (Scan (length table.old) image.now elapsed (length outputs.old))) self.old self.new table.old table.new outputs.old outputs.new }
-        ensures history { Goes_on (meaning B.Block) (Scan (length table.old) image.now elapsed (length outputs.old)) self.old self.new table.old table.new outputs.old outputs.new }
+        ensures history { GoesOn (meaning B.Block) (Scan (length table.old) image.now elapsed (length outputs.old)) self.old self.new table.old table.new outputs.old outputs.new }
     {
         if !are_sizes_allowed(table.len(), outputs.len()) || image.len() != 8 {
             return Err(Refusal::Sizes);
@@ -85,7 +85,7 @@ impl Station {
     pub fn halt<B: Block>(&mut self, table: &mut [B], outputs: &mut [u8]) -> Result<(), Refusal>
         ensures answer { result ≡ halt_answer (effect (Halt (length table.old) (length outputs.old))) }
         ensures leaves { CallLeaves (meaning B.Block) (effect (Halt (length table.old) (length outputs.old))) self.old self.new table.old table.new outputs.old outputs.new }
-        ensures history { Goes_on (meaning B.Block) (Halt (length table.old) (length outputs.old)) self.old self.new table.old table.new outputs.old outputs.new }
+        ensures history { GoesOn (meaning B.Block) (Halt (length table.old) (length outputs.old)) self.old self.new table.old table.new outputs.old outputs.new }
     {
         if !are_sizes_allowed(table.len(), outputs.len()) {
             return Err(Refusal::Sizes);

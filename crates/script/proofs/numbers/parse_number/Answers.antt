@@ -1,5 +1,5 @@
 use Rattle.std.proofs.Common.{◌≡◌, ◌+◌, ◌-◌, ◌*◌, length, get_or, take, drop, sym, ◌∙◌, subst, arith}
-use Rattle.std.specs.List.{AllByRecursion as All}
+use Rattle.std.specs.List.{AllByRecursion}
 use Rattle.std.proofs.ByRecursion.{All-get_or, All-more}
 use Rattle.std.proofs.lemmas.List.{at_drop_more, at_drop_all, take_all}
 use Rattle.std.proofs.lemmas.Bool.{both_ways, eqb-false}
@@ -32,4 +32,4 @@ returns c =
     let i = c.loop-c.c-index in
     let last : value_after c.loop-c.n (drop i s) ≡ c.loop-c.n = at_drop_all (value_after c.loop-c.n) s i (omega arith) in
     let all : take i s ≡ s = take_all i s (omega arith) in
-    (omega (arith, eqb-false (length s) 0 (sym c.is_empty.ensures ∙ c.if-is_empty.false)), subst (All Digit) all c.loop-c.invariant.1, sym (c.loop-c.invariant.0 ∙ last), omega arith)
+    (omega (arith, eqb-false (length s) 0 (sym c.is_empty.ensures ∙ c.if-is_empty.false)), subst (AllByRecursion Digit) all c.loop-c.invariant.1, sym (c.loop-c.invariant.0 ∙ last), omega arith)

@@ -1,5 +1,5 @@
 use Rattle.std.proofs.Common.{◌≡◌, length, take, sym, ◌∙◌, subst, arith}
-use Rattle.std.specs.List.{AllByRecursion as All}
+use Rattle.std.specs.List.{AllByRecursion}
 use Rattle.std.proofs.ByRecursion.{All-get_or, All-more}
 use Rattle.std.proofs.lemmas.List.{take_all}
 use Rattle.std.proofs.lemmas.Bool.{both_ways, false≢true, not-true, not_from_false, eqb-false, ne_eqb}
@@ -16,5 +16,5 @@ pub returns : goal.returns
 returns c =
     let s = c.args.s.now in
     let all : take c.loop-b.b-index s ≡ s = take_all _ s (omega arith) in
-    let each = subst (All InPath) all c.loop-b.invariant in
+    let each = subst (AllByRecursion InPath) all c.loop-b.invariant in
     (λ e. (omega (arith, eqb-false (length s) 0 (sym c.is_empty.ensures ∙ not-true _ e)), each), λ p. not_from_false _ (c.is_empty.ensures ∙ ne_eqb (length s) 0 (λ z. omega arith)))
