@@ -16,7 +16,7 @@ use values::Source;
 // The terminals that a source of row k needs; the masks are those of the earlier rows.
 fn source_mask(source: Source, k: usize, masks: &[u64]) -> u64
     requires k_in_bounds { k ≤ length masks.now }
-    requires source_value { source_wired k source ≡ true }
+    requires wired_source { source_wired k source ≡ true }
     ensures { (t : ℕ) → t < terminals → bit_at result t ≡ source_needs (masked masks.now) t source }
 {
     match source {

@@ -26,7 +26,7 @@ fn is_terminal_on(image: &[u8], terminal: u8) -> bool
 fn is_source_on<B: Block>(source: Source, k: usize, image: &[u8], table: &[B]) -> bool
     requires image_len { length image.now ≡ image_size }
     requires k_in_bounds { k ≤ length table.now }
-    requires source_value { source_wired k source ≡ true }
+    requires wired_source { source_wired k source ≡ true }
     ensures { result ≡ source_on image.now (on_in (meaning B.Block) (at (meaning B.Block) table.now)) source }
 {
     match source {
@@ -40,7 +40,7 @@ fn is_source_on<B: Block>(source: Source, k: usize, image: &[u8], table: &[B]) -
 // The reset bit of a row in an image.
 fn is_reset_on(reset: Option<u8>, image: &[u8]) -> bool
     requires image_len { length image.now ≡ image_size }
-    requires reset_value { reset_wired reset ≡ true }
+    requires wired_reset { reset_wired reset ≡ true }
     ensures { result ≡ reset_on image.now reset }
 {
     match reset {
