@@ -1,12 +1,12 @@
 -- What every value of the reset button keeps, and how plain fields are read.
-use Rattle.std.specs.Prelude.{Bool, ◌&&◌, not, cond, ℕ, leb}
+use Rattle.std.specs.Prelude.{Bool, ◌&&◌, not, cond, ℕ, nat_le}
 use Rattle.block.specs.Limits.{times_allowed, shortest_press, longest_press}
 use Rattle.reset.specs.declared.fields.ButtonFields.{ButtonFields}
 use Rattle.reset.specs.declared.fields.ButtonState.TheVariants.{Idle}
 
 -- the times are a sheet's, and the running time is within max
 abbrev pub button_allowed : ℕ → ℕ → ℕ → Bool
-button_allowed min max time = times_allowed min max && leb time max
+button_allowed min max time = times_allowed min max && nat_le time max
 
 -- the one lawful button that fields outside the limits are read as
 abbrev pub fixed_button : ButtonFields

@@ -1,5 +1,5 @@
 -- The reset button's machine, arrow by arrow, over its plain fields.
-use Rattle.std.specs.Prelude.{Bool, true, false, ◌||◌, cond, ℕ, ◌+◌, ltb}
+use Rattle.std.specs.Prelude.{Bool, true, false, ◌||◌, cond, ℕ, ◌+◌, nat_lt}
 use Rattle.block.specs.declared.code.Code.{Code}
 use Rattle.block.specs.declared.code.Code.TheVariants as code
 use Rattle.block.specs.declared.times.Times.{Times}
@@ -25,9 +25,9 @@ lasting f t = record { state = f.state; time = t; min = f.min; max = f.max }
 -- a pressed button, or one that falls: too long, still pressed, too short, or a pulse
 abbrev pub pressed_next : ButtonFields → ResetInput → ButtonFields
 pressed_next f i =
-    cond (ltb f.max (f.time + i.elapsed)) (entering f TooLong)
+    cond (nat_lt f.max (f.time + i.elapsed)) (entering f TooLong)
     (cond i.now (lasting f (f.time + i.elapsed))
-    (cond (ltb (f.time + i.elapsed) f.min) (entering f TooShort) (entering f Pulse)))
+    (cond (nat_lt (f.time + i.elapsed) f.min) (entering f TooShort) (entering f Pulse)))
 
 -- a requested button
 abbrev pub requested_next : ButtonState → ButtonFields → ResetInput → ButtonFields

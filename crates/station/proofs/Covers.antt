@@ -64,13 +64,13 @@ or_off : (x y : Bool) → (x || y) ≡ false → (x ≡ false) × (y ≡ false)
 or_off true y e = absurd (both_ways true e refl)
 or_off false y e = (refl, e)
 
-module _ (rules : ℕ → ℕ → Bool) (r : Row) (pins : List ℕ) (masks : PinMasks rules r pins) (t : ℕ) (lt : t < terminals) where
-  cover_needs : (w : Word) → pins_cover pins t w ≡ true → OffWhereNeeded rules t r w → ⊥
+module _ (needs : ℕ → ℕ → Bool) (r : Row) (pins : List ℕ) (masks : PinMasks needs r pins) (t : ℕ) (lt : t < terminals) where
+  cover_needs : (w : Word) → pins_cover pins t w ≡ true → OffWhereNeeded needs t r w → ⊥
   cover_needs w e off =
       covered w.pin0 w.pin1 w.pin2 w.pin3 _ _ _ _ e
       (λ h. off.pin0 (sym (masks.pin0 t lt) ∙ h)) (λ h. off.pin1 (sym (masks.pin1 t lt) ∙ h)) (λ h. off.pin2 (sym (masks.pin2 t lt) ∙ h)) (λ h. off.pin3 (sym (masks.pin3 t lt) ∙ h))
 
-  cover_off : (w : Word) → pins_cover pins t w ≡ false → OffWhereNeeded rules t r w
+  cover_off : (w : Word) → pins_cover pins t w ≡ false → OffWhereNeeded needs t r w
   cover_off w e =
       let a = or_off (w.pin0 && bit_at (get_or pins 0 0) t) _ e in
       let b = or_off (w.pin1 && bit_at (get_or pins 1 0) t) _ a.1 in
@@ -82,8 +82,8 @@ module _ (rules : ℕ → ℕ → Bool) (r : Row) (pins : List ℕ) (masks : Pin
         pin3 = λ h. uncovered w.pin3 _ c.1 (masks.pin3 t lt ∙ h);
       }
 
-  pub row_needs : (clear : Word → Bool) (a b : ℕ) → bit_at a t ≡ source_needs rules t r.act → (bit_at b t ≡ true) ↔ Every (λ n. clear (word_number n)) (λ n. pins_cover pins t (word_number n)) 16
-      → (bit_at (bit_or a b) t ≡ true) ↔ RowNeeds clear rules r t
+  pub row_needs : (clear : Word → Bool) (a b : ℕ) → bit_at a t ≡ source_needs needs t r.act → (bit_at b t ≡ true) ↔ Every (λ n. clear (word_number n)) (λ n. pins_cover pins t (word_number n)) 16
+      → (bit_at (bit_or a b) t ≡ true) ↔ RowNeeds clear needs r t
   row_needs clear a b act words = (
     (λ e.
         ⊎_elim
