@@ -6,7 +6,8 @@ usage: python3 tools/respell.py [--list]      at the top of the repository; --li
 A word is in snake case and a type, a fact or a module in upper camel case: all-pins becomes all_pins, Made-is-idle MadeIsIdle.
 A name is the repository's own if a file of specs/ or proofs/ declares it, binds it as a variable or has it as a field.
 Names of goals, of steps of a proof and of the library stay. In docs/ and README.md only what stands between back quotes is turned.
-Two names that would fall together stop the script, before anything is written. A second run changes nothing.
+docs/PORT.md, which tells the old names, is left alone. Two names that would fall together stop the script, before anything is written.
+A second run changes nothing.
 """
 
 import os
@@ -135,7 +136,8 @@ def main(argv):
     if bad:
         print("\n".join(bad))
         return 1
-    texts |= {p: read(p) for p in list(files("docs", (".md",))) + ["README.md"]}
+    pages = [p for p in files("docs", (".md",)) if os.path.basename(p) != "PORT.md"]
+    texts |= {p: read(p) for p in pages + ["README.md"]}
     for path, text in texts.items():
         new = turned_file(path, text, names)
         if new != text:
