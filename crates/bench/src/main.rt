@@ -22,13 +22,12 @@ fn check_sheet(rt: &(impl Files + Print + Alloc), path: &str) -> anyhow::Result<
 }
 
 fn run(rt: &HostRuntime) -> anyhow::Result<()> {
-    let mut sheets = 0u64;
-    for path in env::args(rt)?.skip(1) {
-        sheets = sheets.saturating_add(1);
-        check_sheet(rt, path.as_str())?;
+    let mut sheets = env::args(rt)?.skip(1).peekable();
+    if sheets.peek().is_none() {
+        return stop::walk(rt);
     }
-    if sheets == 0 {
-        stop::walk(rt)?;
+    for path in sheets {
+        check_sheet(rt, path.as_str())?;
     }
     Ok(())
 }

@@ -1,6 +1,6 @@
 // An emergency stop through power-up, reset, stop and recovery.
-use anyhow::anyhow;
-use block::{Block, Input, Kind, Settings, Setup, Times, Word};
+use anyhow::Context;
+use block::{Block, Input, Kind, Setup, Word};
 use catalogue::Catalogue;
 
 // One scan: what happens, pin 0 of the stop, and the reset bit.
@@ -76,19 +76,14 @@ fn input_of(scan: Scan, before: bool) -> Input {
 
 // Prints what the stop shows after each step.
 pub fn walk(rt: &(impl Print)) -> anyhow::Result<()> {
-    let Some(settings) = Settings::new(Kind::Estop, false, false) else {
-        return Err(anyhow!("settings"));
-    };
-    let Some(times) = Times::new(350, 2000) else {
-        return Err(anyhow!("times"));
-    };
-    let mut stop = Catalogue::make(Setup { settings, times });
+    let setup = Setup::new(Kind::Estop, false, false, 350, 2000).context("setup")?;
+    let mut stop = Catalogue::make(setup);
     let mut before = true;
     for scan in SCANS {
         stop = stop.step(input_of(scan, before));
         before = scan.reset;
         let what = scan.what;
-        let mode = std::str::from_utf8(stop.mode().word())?;
+        let mode = stop.mode();
         let code = stop.code().number();
         println!(rt; "{what:<26}mode={mode:<6}code={code:04X}")?;
     }

@@ -61,6 +61,7 @@ impl Code {
         }
     }
 
+    // A method and no `From`: it names which part of the line is wanted.
     pub fn number(self) -> u16
         ensures { result ≡ number_of self }
     {

@@ -7,7 +7,7 @@ ghost use Rattle.block.specs.declared.setup.Setup.{Setup};
 ghost use Rattle.block.specs.declared.types.Input.{Input};
 ghost use Rattle.block.specs.declared.types.Mode.{Mode};
 ghost use Rattle.block.specs.declared.types.Word.{Word};
-ghost use Rattle.block.specs.Laws.{MadeIsIdle, InactiveEndsIdle, ActiveLeavesIdle, OnOrWaitingWasClear, ClearKeepsOn, WaitingEndsOnExactlyReleased, ReleasesWaitingAtAnEdge, FaultDoesNotEndOn, LatchedDoesNotStartItself, QuietEndsOff, QuietClearEndsWaiting, QuietBringsNoFault, WaitingCanComeOn, ClearAndLatchedStay};
+ghost use Rattle.block.specs.Laws.{StepLaws, WaitingCanComeOn};
 ghost use Rattle.block.specs.Meaning.{meant};
 ghost use Rattle.block.specs.Rises.{Rises};
 
@@ -25,7 +25,7 @@ pub use times::Times;
 pub use types::{Input, Kind, Mode, Word};
 
 // A safety function block: a plain value that is stepped once in each scan.
-// The ghost members say what it means; specs/Meaning.antt has a line for each.
+// Eight ghost members say what it means; specs/Meaning.antt has a line for each. That they are these, by name, is a rule of the library.
 pub trait Block: Copy {
     ghost mode: { Self → Mode };
 
@@ -57,7 +57,7 @@ pub trait Block: Copy {
     fn code(&self) -> Code
         ensures { result ≡ code self.now };
 
-    // Whether the block asks for a reset.
+    // Whether the block asks for a reset. Most ask while they wait, but no default says so: under a button a fault asks too.
     fn requests_reset(&self) -> bool
         ensures { result ≡ requests self.now };
 
@@ -68,31 +68,8 @@ pub trait Block: Copy {
     fn comes_on()
         ensures { WaitingCanComeOn (meant mode clear latched releases next made code requests) };
 
-    ghost made_is_idle: { MadeIsIdle (meant mode clear latched releases next made code requests) };
-
-    ghost inactive_ends_idle: { InactiveEndsIdle (meant mode clear latched releases next made code requests) };
-
-    ghost active_leaves_idle: { ActiveLeavesIdle (meant mode clear latched releases next made code requests) };
-
-    ghost on_or_waiting_was_clear: { OnOrWaitingWasClear (meant mode clear latched releases next made code requests) };
-
-    ghost clear_keeps_on: { ClearKeepsOn (meant mode clear latched releases next made code requests) };
-
-    ghost waiting_ends_on_exactly_released: { WaitingEndsOnExactlyReleased (meant mode clear latched releases next made code requests) };
-
-    ghost releases_waiting_at_an_edge: { ReleasesWaitingAtAnEdge (meant mode clear latched releases next made code requests) };
-
-    ghost fault_does_not_end_on: { FaultDoesNotEndOn (meant mode clear latched releases next made code requests) };
-
-    ghost latched_does_not_start_itself: { LatchedDoesNotStartItself (meant mode clear latched releases next made code requests) };
-
-    ghost quiet_ends_off: { QuietEndsOff (meant mode clear latched releases next made code requests) };
-
-    ghost quiet_clear_ends_waiting: { QuietClearEndsWaiting (meant mode clear latched releases next made code requests) };
-
-    ghost quiet_brings_no_fault: { QuietBringsNoFault (meant mode clear latched releases next made code requests) };
-
-    ghost clear_and_latched_stay: { ClearAndLatchedStay (meant mode clear latched releases next made code requests) };
+    // That a made block is idle, and laws 1 to 11 and 13, a field for each: law 12 is what `comes_on` shows.
+    ghost laws: { StepLaws (meant mode clear latched releases next made code requests) };
 }
 
 // A block that waits for a rise of the reset, and whose laws about quiet steps ask only that now is off.

@@ -1,6 +1,8 @@
 // The plain values of the interface: modes, words of pins, the input of a step, kinds of block.
-ghost use Rattle.std.specs.Prelude.{◌≡◌};
+ghost use Rattle.std.specs.Prelude.{◌≡◌, Some};
 ghost use Rattle.block.specs.Modes.{mode_word};
+
+use std::fmt;
 
 // What a block is doing. Waiting means that it is clear and asks for its reset.
 #[derive(Clone, Copy, PartialEq, Eq)]
@@ -14,16 +16,24 @@ pub enum Mode {
 
 impl Mode {
     // The mode as reports name it.
-    pub fn word(self) -> &'static [u8]
+    pub fn word(self) -> &'static str
         ensures { result.now ≡ mode_word self }
     {
         match self {
-            Mode::Idle => b"idle",
-            Mode::Off => b"off",
-            Mode::Waiting => b"wait",
-            Mode::On => b"on",
-            Mode::Fault => b"fault",
+            Mode::Idle => "idle",
+            Mode::Off => "off",
+            Mode::Waiting => "wait",
+            Mode::On => "on",
+            Mode::Fault => "fault",
         }
+    }
+}
+
+impl fmt::Display for Mode {
+    ghost output = { λ m. Some (mode_word m) };
+
+    fn fmt<W: fmt::Write>(&self, f: &mut fmt::Formatter<W>) -> fmt::Result {
+        f.pad(self.word())
     }
 }
 

@@ -1,7 +1,5 @@
 -- A block under a button keeps the laws of single steps, from the laws of the inner block.
-use borrow.Author.Rules.{rules}
-use mathlib.Core.Path.{◌≡◌, ap}
-use mathlib.Core.Logic.{inl, inr, ⊎_elim}
+use Rattle.std.proofs.Common.{rules, ◌≡◌, ap, inl, inr, ⊎_elim}
 use Rattle.block.specs.declared.types.Mode.TheVariants.{Fault}
 use Rattle.block.specs.Laws.{StepLaws}
 use Rattle.block.specs.Meaning.{Meaning}

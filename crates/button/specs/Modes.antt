@@ -1,8 +1,5 @@
 -- What the layer's mode says of the inner mode and the button, and the other way round.
-use borrow.Author.Rules.{rules}
-use mathlib.Core.Path.{◌≡◌, refl, ap, ◌∙◌}
-use mathlib.Core.Bool.{Bool, true, false}
-use mathlib.Core.Logic.{◌⊎◌, inl, inr}
+use Rattle.std.proofs.Common.{rules, ◌≡◌, refl, ap, ◌∙◌, Bool, true, false, ◌⊎◌, inl, inr}
 use Rattle.block.specs.declared.types.Input.{Input}
 use Rattle.block.specs.declared.types.Mode.{Mode}
 use Rattle.block.specs.declared.types.Mode.TheVariants.{Idle, Off, Waiting, On, Fault}

@@ -1,6 +1,5 @@
 -- The layer is what the relations say of its inner block and button.
-use borrow.Author.Rules.{rules}
-use mathlib.Core.Path.{refl}
+use Rattle.std.proofs.Common.{rules, refl}
 use Rattle.block.specs.Laws.{StepLaws}
 use Rattle.block.specs.Meaning.{Meaning}
 use Rattle.button.specs.declared.Button.{Button}

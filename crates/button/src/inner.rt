@@ -3,7 +3,6 @@ ghost use Rattle.block.specs.Of.{meaning};
 ghost use Rattle.reset.specs.declared.fields.ButtonFields.{ButtonFields};
 ghost use Rattle.button.specs.Inner.{Buttons};
 ghost use Rattle.button.specs.Relations.{button_relations};
-ghost use Rattle.std.proofs.Common.{rules};
 
 use crate::Button;
 use block::{Block, Rising};
@@ -22,7 +21,7 @@ impl<B: Rising> HasInner<B> for Button<B> {
 
     ghost fields = { λ b. b.button };
 
-    ghost buttons = { button_relations (meaning B.Block.own) (Prim.search rules) };
+    ghost buttons = { button_relations (meaning B.Block.own) B.laws };
 }
 
 // The mode, clear words, latched flag and releases of the layer are those of its inner block and button, by these relations.

@@ -51,7 +51,7 @@ scanned b before (s ∷ ss) =
 abbrev pub outcome : Trial → Outcome
 outcome (press min max time) = code (button_code (pressed (idle_button min max) time).state)
 outcome (on_at_request min max) = code (button_code (requested (idle_button min max) true false 1).state)
-outcome (stop s before scans) = modes (scanned (Estop (record { start = false; auto = false; state = s })) before scans)
+outcome (stop s before scans) = modes (scanned (Estop (record { settings = record { start = false; auto = false }; state = s })) before scans)
 
 pub record Case : Type 0 where
   pub trial : Trial

@@ -12,10 +12,10 @@ use Rattle.catalogue.specs.Gate.{gate, all_pins, any_pin}
 use Rattle.catalogue.specs.Stop.{estop}
 
 abbrev pub and_gate : Meaning (Gate AllPins)
-and_gate = gate (record {}) all_pins
+and_gate = gate all_pins
 
 abbrev pub or_gate : Meaning (Gate AnyPin)
-or_gate = gate (record {}) any_pin
+or_gate = gate any_pin
 
 -- what each kind gives
 abbrev pub of_kind : {R : Type 0} → (Gate AllPins → R) → (Gate AnyPin → R) → (Stop → R) → Catalogue → R

@@ -34,14 +34,14 @@ abbrev pub gate_next : Bool → Bool → GateState
 gate_next active clear = cond active (cond clear On Off) Idle
 
 -- a gate by its test: never latched, never released
-abbrev pub gate : {T : Type 0} → T → (Word → Bool) → Meaning (Gate T)
-gate test passed = record {
+abbrev pub gate : {T : Type 0} → (Word → Bool) → Meaning (Gate T)
+gate passed = record {
   mode = λ g. gate_mode g.state;
   clear = λ g w. passed w;
   latched = λ g. false;
   releases = λ g i. false;
   next = λ g i. record { state = gate_next i.active (passed i.word); test = g.test };
-  made = λ s. record { state = Idle; test = test };
+  made = λ s. record { state = Idle; test = record {} };
   code = λ g. gate_code g.state;
   requests = λ g. is_waiting (gate_mode g.state);
 }

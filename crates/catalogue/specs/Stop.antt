@@ -9,6 +9,7 @@ use Rattle.block.specs.declared.types.Word.{Word}
 use Rattle.block.specs.Meaning.{Meaning}
 use Rattle.block.specs.Modes.{is_waiting}
 use Rattle.block.specs.Runs.{rise}
+use Rattle.catalogue.specs.declared.stop.Phase.{Phase}
 use Rattle.catalogue.specs.declared.stop.Stop.{Stop}
 use Rattle.catalogue.specs.declared.stop.StopState.{StopState}
 use Rattle.catalogue.specs.declared.stop.StopState.TheVariants.{Idle, Init, FirstOff, FirstReady, FirstFault, On, AgainOff, AgainReady, AgainFault}
@@ -41,45 +42,47 @@ stop_code AgainFault = code.HC011
 abbrev pub stop_clear : Word → Bool
 stop_clear w = w.pin0
 
--- from init and first-off: a reset that is on too early is a fault unless start is 1; else a clear word makes it on or ready; else it is off
-abbrev pub first_next : StopSettings → Input → StopState
-first_next s i = cond (not s.start && i.now) FirstFault (cond (stop_clear i.word) (cond s.start On FirstReady) FirstOff)
+-- the states of the phase before the stop has been on, and of the one after
+abbrev pub first : Phase
+first = record { off = FirstOff; ready = FirstReady; fault = FirstFault }
 
--- from again-off: the same by auto
-abbrev pub again_next : StopSettings → Input → StopState
-again_next s i = cond (not s.auto && i.now) AgainFault (cond (stop_clear i.word) (cond s.auto On AgainReady) AgainOff)
+abbrev pub again : Phase
+again = record { off = AgainOff; ready = AgainReady; fault = AgainFault }
 
--- from a ready state: off without a clear word, on at a rise
-abbrev pub ready_next : StopState → StopState → Input → StopState
-ready_next off ready i = cond (stop_clear i.word) (cond (rise i.now i.before) On ready) off
+-- from off: a reset that is on too early is a fault unless the stop comes on by itself; else a clear word makes it on or ready; else it is off
+abbrev pub off_next : Phase → Bool → Input → StopState
+off_next p by_itself i = cond (not by_itself && i.now) p.fault (cond (stop_clear i.word) (cond by_itself On p.ready) p.off)
 
--- an active step
+-- from ready: off without a clear word, on at a rise
+abbrev pub ready_next : Phase → Input → StopState
+ready_next p i = cond (stop_clear i.word) (cond (rise i.now i.before) On p.ready) p.off
+
+-- from a fault, which leaves once the reset is off
+abbrev pub fault_next : Phase → Input → StopState
+fault_next p i = cond i.now p.fault p.off
+
+-- an active step; start says whether the stop comes on by itself in the first phase, auto in the other
 abbrev pub stop_next : StopSettings → StopState → Input → StopState
 stop_next s Idle i = Init
-stop_next s Init i = first_next s i
-stop_next s FirstOff i = first_next s i
-stop_next s FirstReady i = ready_next FirstOff FirstReady i
--- a fault leaves once the reset is off
-stop_next s FirstFault i = cond i.now FirstFault FirstOff
-stop_next s AgainFault i = cond i.now AgainFault AgainOff
+stop_next s Init i = off_next first s.start i
+stop_next s FirstOff i = off_next first s.start i
+stop_next s FirstReady i = ready_next first i
+stop_next s FirstFault i = fault_next first i
 -- the stop drops without a clear word
 stop_next s On i = cond (stop_clear i.word) On AgainOff
-stop_next s AgainOff i = again_next s i
-stop_next s AgainReady i = ready_next AgainOff AgainReady i
-
--- the settings as they are read from the plain fields
-abbrev pub settings_of : Stop → StopSettings
-settings_of b = record { start = b.start; auto = b.auto }
+stop_next s AgainOff i = off_next again s.auto i
+stop_next s AgainReady i = ready_next again i
+stop_next s AgainFault i = fault_next again i
 
 -- latched: neither start nor auto; it releases in waiting, at a rise
 abbrev pub estop : Meaning Stop
 estop = record {
   mode = λ b. stop_mode b.state;
   clear = λ b w. stop_clear w;
-  latched = λ b. not (settings_of b).start && not (settings_of b).auto;
+  latched = λ b. not b.settings.start && not b.settings.auto;
   releases = λ b i. is_waiting (stop_mode b.state) && rise i.now i.before;
-  next = λ b i. record { start = (settings_of b).start; auto = (settings_of b).auto; state = cond i.active (stop_next (settings_of b) b.state i) Idle };
-  made = λ s. record { start = s.settings.start; auto = s.settings.auto; state = Idle };
+  next = λ b i. record { settings = b.settings; state = cond i.active (stop_next b.settings b.state i) Idle };
+  made = λ s. record { settings = record { start = s.settings.start; auto = s.settings.auto }; state = Idle };
   code = λ b. stop_code b.state;
   requests = λ b. is_waiting (stop_mode b.state);
 }

@@ -5,16 +5,11 @@ ghost use Rattle.catalogue.specs.Gate.{all_pins, any_pin, gate_mode, gate_code, 
 ghost use Rattle.catalogue.specs.Members.{gate_steps};
 
 use block::{Block, Code, Input, Mode, Rising, Setup, Word};
+use std::marker::PhantomData;
 
 // A test of the four pins, by which one gate differs from another.
 pub trait PinTest: Copy {
-    // the one value of the test's type, which the gate carries
-    ghost unit: { Self };
-
     ghost passed: { Word → Bool };
-
-    fn new() -> Self
-        ensures { result ≡ unit };
 
     fn passes(word: Word) -> bool
         ensures { result ≡ passed word };
@@ -25,13 +20,7 @@ pub trait PinTest: Copy {
 pub struct AllPins;
 
 impl PinTest for AllPins {
-    ghost unit = { record {} };
-
     ghost passed = { all_pins };
-
-    fn new() -> AllPins {
-        AllPins
-    }
 
     fn passes(word: Word) -> bool {
         word.pin0 && word.pin1 && word.pin2 && word.pin3
@@ -43,13 +32,7 @@ impl PinTest for AllPins {
 pub struct AnyPin;
 
 impl PinTest for AnyPin {
-    ghost unit = { record {} };
-
     ghost passed = { any_pin };
-
-    fn new() -> AnyPin {
-        AnyPin
-    }
 
     fn passes(word: Word) -> bool {
         word.pin0 || word.pin1 || word.pin2 || word.pin3
@@ -99,7 +82,7 @@ impl GateState {
 #[derive(Clone, Copy)]
 pub struct Gate<T> {
     pub state: GateState,
-    pub test: T,
+    pub test: PhantomData<T>,
 }
 
 pub type And = Gate<AllPins>;
@@ -107,59 +90,35 @@ pub type And = Gate<AllPins>;
 pub type Or = Gate<AnyPin>;
 
 impl<T: PinTest> Block for Gate<T> {
-    ghost mode = { (gate T.PinTest.unit T.PinTest.passed).mode };
+    ghost mode = { (gate T.PinTest.passed).mode };
 
-    ghost clear = { (gate T.PinTest.unit T.PinTest.passed).clear };
+    ghost clear = { (gate T.PinTest.passed).clear };
 
-    ghost latched = { (gate T.PinTest.unit T.PinTest.passed).latched };
+    ghost latched = { (gate T.PinTest.passed).latched };
 
-    ghost releases = { (gate T.PinTest.unit T.PinTest.passed).releases };
+    ghost releases = { (gate T.PinTest.passed).releases };
 
-    ghost next = { (gate T.PinTest.unit T.PinTest.passed).next };
+    ghost next = { (gate T.PinTest.passed).next };
 
-    ghost made = { (gate T.PinTest.unit T.PinTest.passed).made };
+    ghost made = { (gate T.PinTest.passed).made };
 
-    ghost code = { (gate T.PinTest.unit T.PinTest.passed).code };
+    ghost code = { (gate T.PinTest.passed).code };
 
-    ghost requests = { (gate T.PinTest.unit T.PinTest.passed).requests };
+    ghost requests = { (gate T.PinTest.passed).requests };
 
-    ghost made_is_idle = { (gate_steps T.PinTest.unit T.PinTest.passed).made_idle };
-
-    ghost inactive_ends_idle = { (gate_steps T.PinTest.unit T.PinTest.passed).inactive };
-
-    ghost active_leaves_idle = { (gate_steps T.PinTest.unit T.PinTest.passed).active };
-
-    ghost on_or_waiting_was_clear = { (gate_steps T.PinTest.unit T.PinTest.passed).was_clear };
-
-    ghost clear_keeps_on = { (gate_steps T.PinTest.unit T.PinTest.passed).keeps_on };
-
-    ghost waiting_ends_on_exactly_released = { (gate_steps T.PinTest.unit T.PinTest.passed).released };
-
-    ghost releases_waiting_at_an_edge = { (gate_steps T.PinTest.unit T.PinTest.passed).edge };
-
-    ghost fault_does_not_end_on = { (gate_steps T.PinTest.unit T.PinTest.passed).fault };
-
-    ghost latched_does_not_start_itself = { (gate_steps T.PinTest.unit T.PinTest.passed).no_start };
-
-    ghost quiet_ends_off = { (gate_steps T.PinTest.unit T.PinTest.passed).ends_off };
-
-    ghost quiet_clear_ends_waiting = { (gate_steps T.PinTest.unit T.PinTest.passed).ends_waiting };
-
-    ghost quiet_brings_no_fault = { (gate_steps T.PinTest.unit T.PinTest.passed).no_fault };
-
-    ghost clear_and_latched_stay = { (gate_steps T.PinTest.unit T.PinTest.passed).stay };
+    ghost laws = { gate_steps T.PinTest.passed };
 
     fn make(_setup: Setup) -> Gate<T> {
         Gate {
             state: GateState::Idle,
-            test: T::new(),
+            test: PhantomData,
         }
     }
 
     fn step(self, input: Input) -> Gate<T> {
         Gate {
             state: GateState::after(input.active, T::passes(input.word)),
-            test: self.test,
+            ..self
         }
     }
 

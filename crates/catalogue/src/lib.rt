@@ -10,9 +10,9 @@ pub mod gate;
 pub mod stop;
 
 pub use gate::{And, GateState, Or};
-pub use stop::{Stop, StopState};
+pub use stop::{Stop, StopSettings, StopState};
 
-// A block of any kind; it behaves as that kind does.
+// A block of any kind; it behaves as that kind does. An enum and no `dyn`: a block is a plain copyable value in lent memory.
 #[derive(Clone, Copy)]
 pub enum Catalogue {
     And(And),
@@ -37,31 +37,7 @@ impl Block for Catalogue {
 
     ghost requests = { catalogue.requests };
 
-    ghost made_is_idle = { catalogue_steps.made_idle };
-
-    ghost inactive_ends_idle = { catalogue_steps.inactive };
-
-    ghost active_leaves_idle = { catalogue_steps.active };
-
-    ghost on_or_waiting_was_clear = { catalogue_steps.was_clear };
-
-    ghost clear_keeps_on = { catalogue_steps.keeps_on };
-
-    ghost waiting_ends_on_exactly_released = { catalogue_steps.released };
-
-    ghost releases_waiting_at_an_edge = { catalogue_steps.edge };
-
-    ghost fault_does_not_end_on = { catalogue_steps.fault };
-
-    ghost latched_does_not_start_itself = { catalogue_steps.no_start };
-
-    ghost quiet_ends_off = { catalogue_steps.ends_off };
-
-    ghost quiet_clear_ends_waiting = { catalogue_steps.ends_waiting };
-
-    ghost quiet_brings_no_fault = { catalogue_steps.no_fault };
-
-    ghost clear_and_latched_stay = { catalogue_steps.stay };
+    ghost laws = { catalogue_steps };
 
     fn make(setup: Setup) -> Catalogue {
         match setup.settings.kind() {

@@ -1,6 +1,6 @@
 // The emergency stop.
 ghost use Rattle.std.specs.Prelude.{◌≡◌};
-ghost use Rattle.catalogue.specs.Stop.{stop_mode, stop_code, stop_next, first_next, again_next, ready_next, estop};
+ghost use Rattle.catalogue.specs.Stop.{stop_mode, stop_code, stop_next, off_next, ready_next, fault_next, estop};
 ghost use Rattle.catalogue.specs.Members.{stop_steps};
 
 use block::{Block, Code, Input, Mode, Rising, Setup, Word};
@@ -26,8 +26,7 @@ pub enum StopState {
 // The stop as it lies in lent memory; pin 0 on means that no button is pressed in.
 #[derive(Clone, Copy)]
 pub struct Stop {
-    pub start: bool,
-    pub auto: bool,
+    pub settings: StopSettings,
     pub state: StopState,
 }
 
@@ -61,39 +60,56 @@ impl StopState {
     }
 }
 
-// From init and first-off.
-fn first_next(settings: StopSettings, input: Input) -> StopState
-    ensures { result ≡ first_next settings input }
-{
-    match (settings.start(), input.now, input.word.pin0) {
-        (false, true, _) => StopState::FirstFault,
-        (_, _, false) => StopState::FirstOff,
-        (true, _, true) => StopState::On,
-        (false, false, true) => StopState::FirstReady,
-    }
+// The states of a phase: before the stop has been on, or after.
+#[derive(Clone, Copy)]
+struct Phase {
+    off: StopState,
+    ready: StopState,
+    fault: StopState,
 }
 
-// From again-off.
-fn again_next(settings: StopSettings, input: Input) -> StopState
-    ensures { result ≡ again_next settings input }
-{
-    match (settings.auto(), input.now, input.word.pin0) {
-        (false, true, _) => StopState::AgainFault,
-        (_, _, false) => StopState::AgainOff,
-        (true, _, true) => StopState::On,
-        (false, false, true) => StopState::AgainReady,
-    }
-}
+const FIRST: Phase = Phase {
+    off: StopState::FirstOff,
+    ready: StopState::FirstReady,
+    fault: StopState::FirstFault,
+};
 
-// From a ready state, where the stop goes off without a clear word and on at a rise.
-fn ready_next(off: StopState, ready: StopState, input: Input) -> StopState
-    ensures { result ≡ ready_next off ready input }
-{
-    let rise = input.now && !input.before;
-    match (input.word.pin0, rise) {
-        (false, _) => off,
-        (true, true) => StopState::On,
-        (true, false) => ready,
+const AGAIN: Phase = Phase {
+    off: StopState::AgainOff,
+    ready: StopState::AgainReady,
+    fault: StopState::AgainFault,
+};
+
+impl Phase {
+    // From off, in a phase in which the stop comes on by itself or not.
+    fn off_next(self, by_itself: bool, input: Input) -> StopState
+        ensures { result ≡ off_next self by_itself input }
+    {
+        match (by_itself, input.now, input.word.pin0) {
+            (false, true, _) => self.fault,
+            (_, _, false) => self.off,
+            (true, _, true) => StopState::On,
+            (false, false, true) => self.ready,
+        }
+    }
+
+    // From ready, where the stop goes off without a clear word and on at a rise.
+    fn ready_next(self, input: Input) -> StopState
+        ensures { result ≡ ready_next self input }
+    {
+        let rise = input.now && !input.before;
+        match (input.word.pin0, rise) {
+            (false, _) => self.off,
+            (true, true) => StopState::On,
+            (true, false) => self.ready,
+        }
+    }
+
+    // From a fault, which leaves once the reset is off.
+    fn fault_next(self, input: Input) -> StopState
+        ensures { result ≡ fault_next self input }
+    {
+        if input.now { self.fault } else { self.off }
     }
 }
 
@@ -103,14 +119,14 @@ pub fn stop_next(settings: StopSettings, state: StopState, input: Input) -> Stop
 {
     match state {
         StopState::Idle => StopState::Init,
-        StopState::Init | StopState::FirstOff => first_next(settings, input),
-        StopState::FirstReady => ready_next(StopState::FirstOff, StopState::FirstReady, input),
-        StopState::FirstFault if !input.now => StopState::FirstOff,
+        StopState::Init | StopState::FirstOff => FIRST.off_next(settings.start(), input),
+        StopState::FirstReady => FIRST.ready_next(input),
+        StopState::FirstFault => FIRST.fault_next(input),
         StopState::On if !input.word.pin0 => StopState::AgainOff,
-        StopState::AgainOff => again_next(settings, input),
-        StopState::AgainReady => ready_next(StopState::AgainOff, StopState::AgainReady, input),
-        StopState::AgainFault if !input.now => StopState::AgainOff,
-        state => state,
+        StopState::On => StopState::On,
+        StopState::AgainOff => AGAIN.off_next(settings.auto(), input),
+        StopState::AgainReady => AGAIN.ready_next(input),
+        StopState::AgainFault => AGAIN.fault_next(input),
     }
 }
 
@@ -131,54 +147,25 @@ impl Block for Stop {
 
     ghost requests = { estop.requests };
 
-    ghost made_is_idle = { stop_steps.made_idle };
-
-    ghost inactive_ends_idle = { stop_steps.inactive };
-
-    ghost active_leaves_idle = { stop_steps.active };
-
-    ghost on_or_waiting_was_clear = { stop_steps.was_clear };
-
-    ghost clear_keeps_on = { stop_steps.keeps_on };
-
-    ghost waiting_ends_on_exactly_released = { stop_steps.released };
-
-    ghost releases_waiting_at_an_edge = { stop_steps.edge };
-
-    ghost fault_does_not_end_on = { stop_steps.fault };
-
-    ghost latched_does_not_start_itself = { stop_steps.no_start };
-
-    ghost quiet_ends_off = { stop_steps.ends_off };
-
-    ghost quiet_clear_ends_waiting = { stop_steps.ends_waiting };
-
-    ghost quiet_brings_no_fault = { stop_steps.no_fault };
-
-    ghost clear_and_latched_stay = { stop_steps.stay };
+    ghost laws = { stop_steps };
 
     fn make(setup: Setup) -> Stop {
         Stop {
-            start: setup.settings.start(),
-            auto: setup.settings.auto(),
+            settings: StopSettings::new(setup.settings.start(), setup.settings.auto()),
             state: StopState::Idle,
         }
     }
 
     fn step(self, input: Input) -> Stop {
-        let settings = StopSettings::new(self.start, self.auto);
         let state = if input.active {
-            stop_next(settings, self.state, input)
+            stop_next(self.settings, self.state, input)
         } else {
             StopState::Idle
         };
-        Stop {
-            start: settings.start(),
-            auto: settings.auto(),
-            state,
-        }
+        Stop { state, ..self }
     }
 
+    // As in a gate, the state tells mode and code; a trait over states would be longer than these two pairs of lines.
     fn mode(&self) -> Mode {
         self.state.mode()
     }

@@ -18,7 +18,7 @@ use Rattle.desk.specs.declared.request.Request.{Request}
 use Rattle.desk.specs.declared.request.Request.TheVariants as request
 use Rattle.desk.specs.Calls.{Called, Outcome, accepted, as_history}
 use Rattle.desk.specs.Desks.{lent, KeepsRest, Lends}
-use Rattle.desk.specs.Pasts.{Past, Fresh, Since, Begins, FitsPast, KeepsPromises, PastGoesOn, calls_of, longer}
+use Rattle.desk.specs.Pasts.{Past, Fresh, Since, Begins, FitsPast, KeepsPromises, EveryPastGoesOn, calls_of, longer}
 use Rattle.desk.proofs.Lent.{same_parts}
 use Rattle.desk.proofs.Pasting.{no_effect, leaves_all, keeps_wiring, lent_fits, own_fits}
 
@@ -67,7 +67,7 @@ module _ {B : Type 0} (m : Meaning B) (laws : StepLaws m) where
     went_on n Fresh fits = keeps_wiring m c a d.station d'.station (lent d.blocks t) (lent d.blocks t') (lent d.bytes o) (lent d.bytes o') called.outcome n ∙ fits
     went_on n (Since w h) fits = λ f rules. fits_on n w f rules h (fits f rules)
 
-    pub call_goes_on : (outputs : List ℕ) (p : Past) → FitsPast m p d t o → (p' : Past) × PastGoesOn m (request.Call c) (Some (record { reply = a; outputs = outputs })) d d' t t' o o' p p'
+    pub call_goes_on : (outputs : List ℕ) → EveryPastGoesOn m (request.Call c) (Some (record { reply = a; outputs = outputs })) d d' t t' o o'
     call_goes_on outputs p fits = ⊎_elim
         (λ (e : accepted a ≡ true).
         let b = begun called.outcome e in
@@ -89,7 +89,7 @@ module _ {B : Type 0} (m : Meaning B) (laws : StepLaws m) where
       subst (λ (x : Station). Fits m w f h x (take table_size t') (take outputs_size o')) (sym s)
       (subst (λ (x : List B). Fits m w f h d.station (take table_size x) (take outputs_size o')) (sym table) (subst (λ (x : List ℕ). Fits m w f h d.station (take table_size t) (take outputs_size x)) (sym outputs) (fits f rules)))
 
-  pub lends_goes_on : (r : Request) (blocks bytes : ℕ) (d d' : Desk) (t t' : List B) (o o' : List ℕ) → calls_of r d t o ≡ [] → Lends m blocks bytes None d d' t t' o o' → (p : Past) → FitsPast m p d t o → (p' : Past) × PastGoesOn m r None d d' t t' o o' p p'
+  pub lends_goes_on : (r : Request) (blocks bytes : ℕ) (d d' : Desk) (t t' : List B) (o o' : List ℕ) → calls_of r d t o ≡ [] → Lends m blocks bytes None d d' t t' o o' → EveryPastGoesOn m r None d d' t t' o o'
   lends_goes_on r blocks bytes d d' t t' o o' none lends p fits =
       let on = moved p d d' t t' o o' lends.station lends.table lends.outputs fits in
       (p, record { grows = sym (ap (λ (h : History). longer h p) none ∙ same_past p); fits = on; promised = past_promised p d' t' o' on })

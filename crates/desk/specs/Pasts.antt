@@ -59,3 +59,6 @@ pub record PastGoesOn {B : Type 0} (m : Meaning B) (r : Request) (a : Option Ans
   pub grows : PastGrows r a d t o p p'
   pub fits : FitsPast m p' d' t' o'
   pub promised : KeepsPromises m p' t' o'
+
+abbrev pub EveryPastGoesOn : {B : Type 0} → Meaning B → Request → Option Answer → (d d' : Desk) (t t' : List B) (o o' : List ℕ) → Type 0
+EveryPastGoesOn m r a d d' t t' o o' = (p : Past) → FitsPast m p d t o → (p' : Past) × PastGoesOn m r a d d' t t' o o' p p'

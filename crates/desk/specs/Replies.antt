@@ -1,16 +1,13 @@
 -- What a report at a desk holds.
 use Rattle.std.specs.Prelude.{◌≡◌, ℕ, min, List, length, take, Ok, Err, Result}
 use Rattle.block.specs.Meaning.{Meaning}
+use Rattle.desk.specs.Sizes.{most_room}
 use Rattle.desk.specs.declared.report.Report.{Report}
 use Rattle.station.specs.declared.refusal.Refusal.{Refusal}
 use Rattle.station.specs.declared.station.Station.{Station}
 use Rattle.station.specs.Reads.{ReportOutcome}
 use Rattle.station.specs.Reports.{report_text}
 use Rattle.station.specs.Scans.{at}
-
--- the most that a report's place can have
-abbrev pub most_room : ℕ
-most_room = 64
 
 abbrev pub report_bytes : Report → List ℕ
 report_bytes r = take r.size r.place

@@ -1,6 +1,7 @@
 -- A list of requests, served one after the other.
-use Rattle.std.specs.Prelude.{◌≡◌, ℕ, List, [], ◌∷◌, ◌++◌, Ok, Err, Option, Result}
+use Rattle.std.specs.Prelude.{◌≡◌, ℕ, List, ◌++◌, Ok, Err, Option, Result}
 use Rattle.std.specs.declared.alloc.AllocError.{AllocError}
+use Rattle.std.specs.List.{FoldsTo}
 use Rattle.std.specs.Option.{option_to_list}
 use Rattle.block.specs.Meaning.{Meaning}
 use Rattle.desk.specs.declared.answer.Answer.{Answer}
@@ -8,11 +9,6 @@ use Rattle.desk.specs.declared.desk.Desk.{Desk}
 use Rattle.desk.specs.declared.request.Request.{Request}
 use Rattle.desk.specs.Desks.{Served}
 use Rattle.desk.specs.Pasts.{Past, FitsPast, PastGoesOn}
-
--- from x to x' by one step for each item
-abbrev pub Chain : {R X : Type 0} → (R → X → X → Type 0) → List R → X → X → Type 0
-Chain Step [] x x' = x' ≡ x
-Chain {X = X} Step (r ∷ rs) x x'' = (x' : X) × Step r x x' × Chain Step rs x' x''
 
 -- the desk with what lies on it, and the answers so far
 pub record Scene (B : Type 0) : Type 0 where
@@ -36,10 +32,14 @@ module _ {B : Type 0} (m : Meaning B) where
     pub turn : Turn r x.1 x'.1
     pub past : PastGoesOn m r turn.answer x.1.desk x'.1.desk x.1.table x'.1.table x.1.outputs x'.1.outputs x.0 x'.0
 
+  -- the same after every past that fits
+  abbrev pub EveryKeptTurn : (r : Request) (x x' : Scene B) → Type 0
+  EveryKeptTurn r x x' = (p : Past) → FitsPast m p x.desk x.table x.outputs → (p' : Past) × KeptTurn r (p, x) (p', x')
+
   -- all requests are served in order, and the promises hold after each, whatever past the desk had
   pub record Ran (rs : List Request) (x x' : Scene B) : Type 0 where
-    pub turns : Chain Turn rs x x'
-    pub kept : (p : Past) → FitsPast m p x.desk x.table x.outputs → (p' : Past) × Chain KeptTurn rs (p, x) (p', x')
+    pub turns : FoldsTo (λ y r y'. Turn r y y') x rs x'
+    pub kept : (p : Past) → FitsPast m p x.desk x.table x.outputs → (p' : Past) × FoldsTo (λ y r y'. KeptTurn r y y') (p, x) rs (p', x')
 
   -- want of memory leaves all as found
   pub record Unserved (d d' : Desk) (t t' : List B) (o o' : List ℕ) (xs xs' : List Answer) : Type 0 where

@@ -1,116 +1,83 @@
 // The text of an answer, as the bench prints it.
-ghost use Rattle.std.specs.Prelude.{◌≡◌, ℕ, ◌<◌, List, ◌++◌, IfOk, string_bytes, codes, OnOk};
-ghost use Rattle.desk.specs.Answers.{answer_text, done_text, fault_text, hex_text, load_text, needed_text, outputs_text, refused_text, reported_text};
+ghost use Rattle.std.specs.Prelude.{◌≡◌, ◌++◌, Some, Err, IfOk, IfSome, MatchResult, codes};
+ghost use Rattle.desk.specs.Answers.{answer_text, hex_text, load_text, outputs_text, refused_text};
 ghost use Rattle.station.specs.Refusals.{refusal_number};
-ghost use Rattle.station.specs.Reports.{hex_digit};
 
 use crate::answer::{Answer, Reply};
-use crate::report::Report;
-use sheet::WiringFault;
+use sheet::Fault;
 use station::{LoadRefusal, Refusal};
 use std::alloc::{AllocError, Global};
+use std::fmt;
 
-// A hexadecimal digit.
-fn digit_of(n: u8) -> u8
-    requires { n < 16 }
-    ensures { result ≡ hex_digit n }
-{
-    if n < 10 { b'0' + n } else { b'A' + (n - 10) }
-}
+// A refusal as an answer tells it.
+#[derive(Clone, Copy)]
+struct Refused<R>(R);
 
-// Adds so many hexadecimal digits.
-fn push_hex(line: &mut Vec<u8>, n: u64, digits: u8) -> Result<(), AllocError>
-    ensures { OnOk result (line.new.items ≡ line.old.items ++ hex_text digits n) }
-{
-    if digits == 0 {
-        return Ok(());
-    }
-    push_hex(line, n / 16, digits - 1)?;
-    line.push(digit_of((n % 16) as u8))?;
-    Ok(())
-}
+// As `refused 22`.
+impl fmt::Display for Refused<Refusal> {
+    ghost output = { λ r. Some (refused_text (refusal_number r.0)) };
 
-fn refused_head(heap: Global, number: u8) -> Result<String, AllocError>
-    ensures { IfOk result (λ s. string_bytes s ≡ refused_text number) }
-{
-    format!(in heap; "refused {number}")
-}
-
-fn fault_head(heap: Global, fault: WiringFault) -> Result<String, AllocError>
-    ensures { IfOk result (λ s. string_bytes s ≡ fault_text fault) }
-{
-    let number = fault.number();
-    let line = fault.line();
-    let layer = fault.layer().word();
-    format!(in heap; "refused {number} line {line} {layer}")
-}
-
-fn load_head(heap: Global, res: Result<(), LoadRefusal>) -> Result<String, AllocError>
-    ensures { IfOk result (λ s. string_bytes s ≡ load_text res) }
-{
-    match res {
-        Ok(()) => String::from_str(heap, "loaded"),
-        Err(LoadRefusal::Lent) => refused_head(heap, LoadRefusal::Lent.number()),
-        Err(LoadRefusal::Sheet(fault)) => fault_head(heap, fault),
+    fn fmt<W: fmt::Write>(&self, f: &mut fmt::Formatter<W>) -> fmt::Result {
+        let number = self.0.number();
+        write!(f, "refused {number}")
     }
 }
 
-fn done_head(heap: Global, word: &str, res: Result<(), Refusal>) -> Result<String, AllocError>
-    ensures { IfOk result (λ s. string_bytes s ≡ done_text word.now res) }
-{
-    match res {
-        Ok(()) => String::from_str(heap, word),
-        Err(refusal) => refused_head(heap, refusal.number()),
+// As `refused 14 line 9 wiring`.
+impl fmt::Display for Refused<LoadRefusal> {
+    ghost output = { λ r. Some (load_text (Err r.0)) };
+
+    fn fmt<W: fmt::Write>(&self, f: &mut fmt::Formatter<W>) -> fmt::Result {
+        let number = self.0.number();
+        match self.0 {
+            LoadRefusal::Lent => write!(f, "refused {number}"),
+            LoadRefusal::Sheet(fault) => {
+                let line = fault.line();
+                let layer = fault.layer();
+                write!(f, "refused {number} line {line} {layer}")
+            }
+        }
     }
 }
 
 // Ends a line with the output bytes.
-fn with_outputs(heap: Global, head: &str, outputs: [u8; 2]) -> Result<Vec<u8>, AllocError>
-    ensures { IfOk result (λ v. v.items ≡ head.now ++ outputs_text outputs) }
+fn with_outputs<D: fmt::Display>(
+    heap: Global,
+    head: &D,
+    outputs: [u8; 2],
+) -> Result<Vec<u8>, AllocError>
+    ensures { IfOk result (λ v. IfSome (D.output head.now) (λ t. v.items ≡ t ++ outputs_text outputs)) }
 {
-    let mut line = Vec::from_slice(heap, head.as_bytes())?;
-    line.extend_from_slice(b" outputs=")?;
-    push_hex(&mut line, u64::from(outputs[0]), 2)?;
-    push_hex(&mut line, u64::from(outputs[1]), 2)?;
-    line.extend_from_slice(b"\n")?;
-    Ok(line)
+    let [first, second] = outputs;
+    Ok(format!(in heap; "{head} outputs={first:02X}{second:02X}\n")?.into_bytes())
 }
 
-fn refusal_line(heap: Global, refusal: Refusal) -> Result<Vec<u8>, AllocError>
-    ensures { IfOk result (λ v. v.items ≡ refused_text (refusal_number refusal) ++ codes "\n") }
+// A word where a call was accepted, or how it was refused.
+fn call_line<E: fmt::Display + Drop>(
+    heap: Global,
+    word: &str,
+    res: Result<(), E>,
+    outputs: [u8; 2],
+) -> Result<Vec<u8>, AllocError>
+    ensures { IfOk result (λ v. MatchResult res (λ _. v.items ≡ word.now ++ outputs_text outputs) (λ e. IfSome (E.output e) (λ t. v.items ≡ t ++ outputs_text outputs))) }
 {
-    let head = refused_head(heap, refusal.number())?;
-    let mut line = Vec::from_slice(heap, head.as_bytes())?;
-    line.extend_from_slice(b"\n")?;
-    Ok(line)
+    match res {
+        Ok(()) => with_outputs(heap, &word, outputs),
+        Err(refused) => with_outputs(heap, &refused, outputs),
+    }
 }
 
 fn needs_line(heap: Global, list: u64) -> Result<Vec<u8>, AllocError>
     ensures { IfOk result (λ v. v.items ≡ codes "needs=" ++ (hex_text 16 list ++ codes "\n")) }
 {
-    let mut line = Vec::from_slice(heap, b"needs=")?;
-    push_hex(&mut line, list, 16)?;
-    line.extend_from_slice(b"\n")?;
-    Ok(line)
+    Ok(format!(in heap; "needs={list:016X}\n")?.into_bytes())
 }
 
-// A report ends in LF itself.
-fn report_text(heap: Global, res: Result<Report, Refusal>) -> Result<Vec<u8>, AllocError>
-    ensures { IfOk result (λ v. v.items ≡ reported_text res) }
+fn refusal_line(heap: Global, refusal: Refusal) -> Result<Vec<u8>, AllocError>
+    ensures { IfOk result (λ v. v.items ≡ refused_text (refusal_number refusal) ++ codes "\n") }
 {
-    match res {
-        Ok(report) => Vec::from_slice(heap, report.bytes()),
-        Err(refusal) => refusal_line(heap, refusal),
-    }
-}
-
-fn needs_text(heap: Global, res: Result<u64, Refusal>) -> Result<Vec<u8>, AllocError>
-    ensures { IfOk result (λ v. v.items ≡ needed_text res) }
-{
-    match res {
-        Ok(list) => needs_line(heap, list),
-        Err(refusal) => refusal_line(heap, refusal),
-    }
+    let refused = Refused(refusal);
+    Ok(format!(in heap; "{refused}\n")?.into_bytes())
 }
 
 // The lines that the bench prints for an answer, each with its LF.
@@ -119,19 +86,12 @@ pub fn answer_text(heap: Global, answer: &Answer) -> Result<Vec<u8>, AllocError>
 {
     let outputs = answer.outputs;
     match answer.reply {
-        Reply::Loaded(result) => {
-            let head = load_head(heap, result)?;
-            with_outputs(heap, head.as_str(), outputs)
-        }
-        Reply::Scanned(result) => {
-            let head = done_head(heap, "scanned", result)?;
-            with_outputs(heap, head.as_str(), outputs)
-        }
-        Reply::Halted(result) => {
-            let head = done_head(heap, "halted", result)?;
-            with_outputs(heap, head.as_str(), outputs)
-        }
-        Reply::Reported(result) => report_text(heap, result),
-        Reply::Needs(result) => needs_text(heap, result),
+        Reply::Loaded(result) => call_line(heap, "loaded", result.map_err(Refused), outputs),
+        Reply::Scanned(result) => call_line(heap, "scanned", result.map_err(Refused), outputs),
+        Reply::Halted(result) => call_line(heap, "halted", result.map_err(Refused), outputs),
+        // A report ends in LF itself.
+        Reply::Reported(Ok(report)) => Vec::from_slice(heap, report.bytes()),
+        Reply::Needs(Ok(list)) => needs_line(heap, list),
+        Reply::Reported(Err(refusal)) | Reply::Needs(Err(refusal)) => refusal_line(heap, refusal),
     }
 }

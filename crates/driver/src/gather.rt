@@ -1,15 +1,9 @@
 // The requests of a script.
-use anyhow::anyhow;
+use anyhow::Context;
 use desk::{Call, Request};
-use script::{Line, next_line, read_line};
+use script::{Line, Script, read_line};
+use std::alloc::AllocError;
 use std::fs;
-
-// The requests up to the end of a script, or up to the line that ends the run, with what is wrong there.
-#[derive(Drop)]
-pub struct Gathered {
-    pub requests: Vec<Request>,
-    pub fault: Option<anyhow::Error>,
-}
 
 // The bytes of the sheet at a path.
 fn read_sheet(rt: &HostRuntime, path: &[u8]) -> anyhow::Result<Vec<u8>> {
@@ -19,34 +13,28 @@ fn read_sheet(rt: &HostRuntime, path: &[u8]) -> anyhow::Result<Vec<u8>> {
 
 // What a line asks for; none where it is passed over.
 fn request_of(rt: &HostRuntime, line: &[u8]) -> anyhow::Result<Option<Request>> {
-    match read_line(line) {
-        None => Err(anyhow!("a line of the script is no command")),
-        Some(Line::Nothing) => Ok(None),
-        Some(Line::Load(path)) => Ok(Some(Request::Call(Call::Load(read_sheet(rt, path)?)))),
-        Some(Line::Command(command)) => Ok(Some(Request::Call(Call::Command(command)))),
-        Some(Line::Blocks(count)) => Ok(Some(Request::Blocks(count))),
-        Some(Line::Bytes(count)) => Ok(Some(Request::Bytes(count))),
-    }
+    let line = read_line(line).context("a line of the script is no command")?;
+    Ok(match line {
+        Line::Nothing => None,
+        Line::Load(path) => Some(Request::Call(Call::Load(read_sheet(rt, path)?))),
+        Line::Command(command) => Some(Request::Call(Call::Command(command))),
+        Line::Blocks(count) => Some(Request::Blocks(count)),
+        Line::Bytes(count) => Some(Request::Bytes(count)),
+    })
 }
 
-pub fn gather(rt: &HostRuntime, script: &[u8]) -> anyhow::Result<Gathered> {
-    let mut requests = Vec::new(rt.alloc());
-    let mut rest = script;
-    while let Some((line, after)) = next_line(rest) {
+// Adds the requests up to the end of a script, or up to the line that ends the run, and says then what is wrong there.
+// Where there is no memory for the list, nothing is to be played.
+pub fn gather(
+    rt: &HostRuntime,
+    script: &[u8],
+    requests: &mut Vec<Request>,
+) -> Result<anyhow::Result<()>, AllocError> {
+    for line in Script(script) {
         match request_of(rt, line) {
-            Ok(Some(request)) => requests.push(request)?,
-            Ok(None) => {}
-            Err(fault) => {
-                return Ok(Gathered {
-                    requests,
-                    fault: Some(fault),
-                });
-            }
+            Ok(request) => requests.extend(request)?,
+            Err(fault) => return Ok(Err(fault)),
         }
-        rest = after;
     }
-    Ok(Gathered {
-        requests,
-        fault: None,
-    })
+    Ok(Ok(()))
 }

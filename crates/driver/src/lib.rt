@@ -4,12 +4,13 @@
 mod gather;
 mod play;
 
-use crate::gather::gather;
 use crate::play::play;
-use anyhow::anyhow;
+use anyhow::{Context, bail, ensure};
 use stations::{Bare, Buttons, Panels};
 use std::io::Read;
 use std::{env, fs};
+
+const USAGE: &str = "usage: bench STATION [SCRIPT]";
 
 fn read_standard_input(rt: &HostRuntime) -> anyhow::Result<Vec<u8>> {
     let mut script = Vec::new(rt.alloc());
@@ -20,25 +21,21 @@ fn read_standard_input(rt: &HostRuntime) -> anyhow::Result<Vec<u8>> {
 // Plays a script on the station of this name.
 fn play_on(rt: &HostRuntime, station: &str, script: &[u8]) -> anyhow::Result<()> {
     match station {
-        "catalogue" => play::<Bare>(rt, gather(rt, script)?),
-        "button" => play::<Buttons>(rt, gather(rt, script)?),
-        "group" => play::<Panels>(rt, gather(rt, script)?),
-        _ => Err(anyhow!("the station is catalogue, button or group")),
+        "catalogue" => play::<Bare>(rt, script),
+        "button" => play::<Buttons>(rt, script),
+        "group" => play::<Panels>(rt, script),
+        _ => bail!("the station is catalogue, button or group"),
     }
 }
 
 // `bench STATION [SCRIPT]`; without a script's path the script comes from standard input.
 pub fn run_bench(rt: &HostRuntime) -> anyhow::Result<()> {
     let mut arguments = env::args(rt)?.skip(1);
-    let Some(station) = arguments.next() else {
-        return Err(anyhow!("usage: bench STATION [SCRIPT]"));
-    };
+    let station = arguments.next().context(USAGE)?;
     let script = match arguments.next() {
         Some(path) => fs::read(rt, path.as_str())?,
         None => read_standard_input(rt)?,
     };
-    if arguments.next().is_some() {
-        return Err(anyhow!("usage: bench STATION [SCRIPT]"));
-    }
+    ensure!(arguments.next().is_none(), USAGE);
     play_on(rt, station.as_str(), &script)
 }

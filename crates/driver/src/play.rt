@@ -1,22 +1,17 @@
 // Playing requests on a new station.
-use crate::gather::Gathered;
-use anyhow::anyhow;
-use block::{Block, Kind, Settings, Setup, Times};
+use crate::gather::gather;
+use anyhow::Context;
+use block::{Block, Kind, Setup};
 use desk::{Answer, Desk, Request, answer_text};
 use std::io::Write;
 
 // How many blocks a script can lend.
-const BLOCKS: u8 = 40;
+const BLOCKS: usize = 40;
 
 // An AND with the times 350 and 2000, which every block of the table is at first.
 fn first_block<B: Block>() -> anyhow::Result<B> {
-    let Some(settings) = Settings::new(Kind::And, false, false) else {
-        return Err(anyhow!("settings"));
-    };
-    let Some(times) = Times::new(350, 2000) else {
-        return Err(anyhow!("times"));
-    };
-    Ok(B::make(Setup { settings, times }))
+    let setup = Setup::new(Kind::And, false, false, 350, 2000).context("setup")?;
+    Ok(B::make(setup))
 }
 
 fn print_answers(rt: &HostRuntime, answers: &[Answer]) -> anyhow::Result<()> {
@@ -40,16 +35,11 @@ fn serve_and_print<B: Block>(
     print_answers(rt, &answers)
 }
 
-// Plays what was gathered, and then says what ended the script early.
-pub fn play<B: Block>(rt: &HostRuntime, gathered: Gathered) -> anyhow::Result<()> {
-    let Gathered { requests, fault } = gathered;
-    let mut table = Vec::new(rt.alloc());
-    for _ in 0..BLOCKS {
-        table.push(first_block::<B>()?)?;
-    }
-    serve_and_print(rt, &requests, table.as_mut_slice())?;
-    match fault {
-        Some(fault) => Err(fault),
-        None => Ok(()),
-    }
+// Plays a script, and says then what ended it early.
+pub fn play<B: Block>(rt: &HostRuntime, script: &[u8]) -> anyhow::Result<()> {
+    let mut requests = Vec::new(rt.alloc());
+    let gathered = gather(rt, script, &mut requests)?;
+    let mut table = vec![in rt.alloc(); first_block::<B>()?; BLOCKS]?;
+    serve_and_print(rt, &requests, &mut table)?;
+    gathered
 }

@@ -1,7 +1,5 @@
 -- A group of rising blocks is a rising block.
-use borrow.Author.Rules.{rules}
-use mathlib.Core.Path.{◌≡◌}
-use mathlib.Core.Bool.{true}
+use Rattle.std.proofs.Common.{rules, ◌≡◌, true}
 use Rattle.block.specs.declared.types.Input.{Input}
 use Rattle.block.specs.Laws.{StepLaws, WaitingCanComeOn}
 use Rattle.block.specs.Meaning.{Meaning}

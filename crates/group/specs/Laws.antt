@@ -1,7 +1,5 @@
 -- A group keeps the laws of the interface, from the laws of its members.
-use borrow.Author.Rules.{rules}
-use mathlib.Core.Path.{◌≡◌}
-use mathlib.Core.Bool.{true}
+use Rattle.std.proofs.Common.{rules, ◌≡◌, true}
 use Rattle.block.specs.declared.types.Input.{Input}
 use Rattle.block.specs.Laws.{StepLaws}
 use Rattle.block.specs.Meaning.{Meaning}

@@ -1,7 +1,5 @@
 -- What laws 9 to 11 of the members give the group, for any class of active steps that the turn of the word keeps.
-use borrow.Author.Rules.{rules}
-use mathlib.Core.Path.{◌≡◌}
-use mathlib.Core.Bool.{true}
+use Rattle.std.proofs.Common.{rules, ◌≡◌, true}
 use Rattle.block.specs.declared.types.Input.{Input}
 use Rattle.block.specs.Laws.{StepLaws, LatchedIdleEndsOff, LatchedClearEndsWaiting, LatchedGetsNoFault}
 use Rattle.block.specs.Meaning.{Meaning}

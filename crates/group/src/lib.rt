@@ -4,7 +4,6 @@
 ghost use Rattle.std.specs.Prelude.{◌≡◌};
 ghost use Rattle.block.specs.Of.{meaning};
 ghost use Rattle.group.specs.Laws.{group_steps};
-ghost use Rattle.std.proofs.Common.{rules};
 ghost use Rattle.group.specs.Group.{turned, turned_input, joint_mode, shows_second, grouped};
 
 use block::{Block, Code, Input, Mode, Rising, Setup, Word};
@@ -37,11 +36,8 @@ pub fn turned_step(input: Input) -> Input
     ensures { result ≡ turned_input input }
 {
     Input {
-        active: input.active,
         word: turned_word(input.word),
-        now: input.now,
-        before: input.before,
-        elapsed: input.elapsed,
+        ..input
     }
 }
 
@@ -87,31 +83,7 @@ impl<A: Rising, B: Rising> Block for Group<A, B> {
 
     ghost requests = { (grouped (meaning A.Block) (meaning B.Block)).requests };
 
-    ghost made_is_idle = { (group_steps (meaning A.Block.own) (meaning B.Block.own) (Prim.search rules) (Prim.search rules)).made_idle };
-
-    ghost inactive_ends_idle = { (group_steps (meaning A.Block.own) (meaning B.Block.own) (Prim.search rules) (Prim.search rules)).inactive };
-
-    ghost active_leaves_idle = { (group_steps (meaning A.Block.own) (meaning B.Block.own) (Prim.search rules) (Prim.search rules)).active };
-
-    ghost on_or_waiting_was_clear = { (group_steps (meaning A.Block.own) (meaning B.Block.own) (Prim.search rules) (Prim.search rules)).was_clear };
-
-    ghost clear_keeps_on = { (group_steps (meaning A.Block.own) (meaning B.Block.own) (Prim.search rules) (Prim.search rules)).keeps_on };
-
-    ghost waiting_ends_on_exactly_released = { (group_steps (meaning A.Block.own) (meaning B.Block.own) (Prim.search rules) (Prim.search rules)).released };
-
-    ghost releases_waiting_at_an_edge = { (group_steps (meaning A.Block.own) (meaning B.Block.own) (Prim.search rules) (Prim.search rules)).edge };
-
-    ghost fault_does_not_end_on = { (group_steps (meaning A.Block.own) (meaning B.Block.own) (Prim.search rules) (Prim.search rules)).fault };
-
-    ghost latched_does_not_start_itself = { (group_steps (meaning A.Block.own) (meaning B.Block.own) (Prim.search rules) (Prim.search rules)).no_start };
-
-    ghost quiet_ends_off = { (group_steps (meaning A.Block.own) (meaning B.Block.own) (Prim.search rules) (Prim.search rules)).ends_off };
-
-    ghost quiet_clear_ends_waiting = { (group_steps (meaning A.Block.own) (meaning B.Block.own) (Prim.search rules) (Prim.search rules)).ends_waiting };
-
-    ghost quiet_brings_no_fault = { (group_steps (meaning A.Block.own) (meaning B.Block.own) (Prim.search rules) (Prim.search rules)).no_fault };
-
-    ghost clear_and_latched_stay = { (group_steps (meaning A.Block.own) (meaning B.Block.own) (Prim.search rules) (Prim.search rules)).stay };
+    ghost laws = { group_steps (meaning A.Block.own) (meaning B.Block.own) A.laws B.laws };
 
     fn make(setup: Setup) -> Group<A, B> {
         Group {

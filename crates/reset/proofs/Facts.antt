@@ -1,7 +1,5 @@
 -- What the layer above uses of the button's machine.
-use borrow.Author.Rules.{rules}
-use mathlib.Core.Path.{◌≡◌}
-use mathlib.Core.Bool.{true, false}
+use Rattle.std.proofs.Common.{rules, ◌≡◌, true, false}
 use Rattle.reset.specs.declared.fields.ButtonFields.{ButtonFields}
 use Rattle.reset.specs.declared.fields.ButtonState.{ButtonState}
 use Rattle.reset.specs.declared.fields.ButtonState.TheVariants.{Idle, WaitForRise, WaitForFall, Pulse, StuckOn, TooLong, TooShort}

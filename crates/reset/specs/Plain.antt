@@ -3,4 +3,4 @@ use Rattle.reset.specs.declared.button.ResetButton.{ResetButton}
 use Rattle.reset.specs.declared.fields.ButtonFields.{ButtonFields}
 
 abbrev pub plain : ResetButton → ButtonFields
-plain b = record { state = b.state; time = b.time; min = b.min; max = b.max }
+plain b = b.fields

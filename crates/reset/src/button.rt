@@ -3,16 +3,13 @@
 ghost use Rattle.std.specs.Prelude.{◌≡◌, true};
 ghost use Rattle.reset.specs.Limits.{button_allowed};
 
-use crate::fields::ButtonState;
+use crate::fields::ButtonFields;
 
 pub mod ops;
 
-// The times are those of a sheet, and the running time is at most max.
+// Plain fields of which the times are those of a sheet, and the running time is at most max.
 #[derive(Clone, Copy)]
 pub struct ResetButton {
-    state: ButtonState,
-    time: u16,
-    min: u16,
-    max: u16,
-    ghost allowed: { button_allowed min max time ≡ true },
+    fields: ButtonFields,
+    ghost allowed: { button_allowed fields.min fields.max fields.time ≡ true },
 }

@@ -1,4 +1,4 @@
 pub mod Growth
 pub mod Lengths
-pub mod Refusals
+pub mod Pairs
 pub mod Same

@@ -31,15 +31,7 @@ keyword_same : (k l : Keyword) → keyword_text k ≡ keyword_text l → k ≡ l
 keyword_same k l e = sym (by_text k) ∙ ap by_letters e ∙ by_text l
 
 digit_same : (c d e : ℕ) → HexDigit c d → HexDigit c e → d ≡ e
-digit_same c d e (inl p) (inl q) = omega arith
-digit_same c d e (inl p) (inr (q, inl r)) = omega arith
-digit_same c d e (inl p) (inr (q, inr r)) = omega arith
-digit_same c d e (inr (p, inl r)) (inl q) = omega arith
-digit_same c d e (inr (p, inl r)) (inr (q, inl s)) = omega arith
-digit_same c d e (inr (p, inl r)) (inr (q, inr s)) = omega arith
-digit_same c d e (inr (p, inr r)) (inl q) = omega arith
-digit_same c d e (inr (p, inr r)) (inr (q, inl s)) = omega arith
-digit_same c d e (inr (p, inr r)) (inr (q, inr s)) = omega arith
+digit_same c d e p q = grind arith
 
 byte_same : (high low a b : ℕ) → HexByte high low a → HexByte high low b → a ≡ b
 byte_same high low a b p q =

@@ -12,7 +12,7 @@ pub enum Command {
 
 #[derive(Clone, Copy)]
 pub enum Line<'a> {
-    // An empty line, or a remark.
+    // An empty line, or a remark. A case and no second `Option` around the line: such a line is right, and says nothing.
     Nothing,
     // The path of the sheet to load.
     Load(&'a [u8]),

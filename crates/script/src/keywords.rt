@@ -14,6 +14,7 @@ pub(crate) enum Keyword {
     Bytes,
 }
 
+// A function and no `TryFrom`, as the readers of values are.
 pub(crate) fn parse_keyword(s: &[u8]) -> Option<Keyword>
     ensures { Parsed Any keyword_text s.now result }
 {

@@ -13,7 +13,7 @@ pub mod words;
 
 pub use command::{Command, Line};
 pub use image::Image;
-pub use lines::next_line;
+pub use lines::{Script, next_line};
 pub use read::read_line;
 pub use theorems::one_reading;
 

@@ -1,13 +1,6 @@
 // Reading a number.
-ghost use Rattle.std.specs.Prelude.{Decides};
 ghost use Rattle.script.specs.Found.{FoundValue};
-ghost use Rattle.script.specs.Numbers.{Digit, NumberWritten};
-
-fn is_digit(c: u8) -> bool
-    ensures { Decides result (Digit c) }
-{
-    b'0' <= c && c <= b'9'
-}
+ghost use Rattle.script.specs.Numbers.{NumberWritten};
 
 // The number that one or more digits write; none where it is over the limit.
 pub(crate) fn parse_number(s: &[u8], limit: u32) -> Option<u32>
@@ -16,15 +9,21 @@ pub(crate) fn parse_number(s: &[u8], limit: u32) -> Option<u32>
     if s.is_empty() {
         return None;
     }
-    let mut n: u64 = 0;
+    // A loop, whose invariant says what the digits so far write; a closure of `try_fold` would have to say it.
+    let mut n = 0u32;
     for c in s {
-        if !is_digit(*c) {
-            return None;
-        }
-        n = 10 * n + u64::from(*c - b'0');
-        if n > u64::from(limit) {
+        let digit = char::from(*c).to_digit(10)?;
+        n = n.checked_mul(10)?.checked_add(digit)?;
+        if n > limit {
             return None;
         }
     }
-    Some(n as u32)
+    Some(n)
+}
+
+// The same where the limit is a byte, so that the cast loses nothing.
+pub(crate) fn parse_byte(s: &[u8], limit: u8) -> Option<u8>
+    ensures { FoundValue (NumberWritten limit s.now) result }
+{
+    parse_number(s, u32::from(limit)).map(|n| n as u8)
 }

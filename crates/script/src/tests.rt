@@ -1,6 +1,6 @@
 // Lines that a person would check by hand.
 use crate::command::{Command, Line};
-use crate::lines::next_line;
+use crate::lines::{Script, next_line};
 use crate::read::read_line;
 use std::test::Fail;
 
@@ -50,4 +50,12 @@ fn last_line_may_lack_its_line_feed(rt: HostRuntime) -> Result<(), Fail> {
         first == b"halt".as_slice() && second == b"bytes 2".as_slice() && next_line(left).is_none()
     );
     Ok(())
+}
+
+#[test]
+fn script_gives_its_lines_in_order(rt: HostRuntime) {
+    let mut script = Script(b"halt\n\nbytes 2");
+    assert!(rt; script.next() == Some(b"halt".as_slice()));
+    assert!(rt; script.next() == Some(b"".as_slice()));
+    assert!(rt; script.next() == Some(b"bytes 2".as_slice()) && script.next().is_none());
 }

@@ -2,7 +2,7 @@
 use Rattle.std.proofs.Common.{◌≡◌, ℕ, Bool, true, List, [], ◌∷◌, ◌++◌, codes, sym, refl, ap, ◌∙◌, append_assoc, arith}
 use Rattle.block.specs.declared.types.Kind.{Kind}
 use Rattle.values.specs.Cut.{join_at}
-use Rattle.values.specs.Written.{Each}
+use Rattle.std.specs.List.{AllByRecursion}
 use Rattle.values.proofs.Clear.{two_clear, time_clear, source_clear, pins_clear, reset_clear, kind_clear, flag_clear}
 use Rattle.values.proofs.Cutting.{cut_cons}
 use Rattle.values.proofs.Glue.{Clear, clear_append, clear_test, clear_from, cut_piece, join_cut}
@@ -16,7 +16,7 @@ use Rattle.sheet.proofs.Forms.{left_append}
 abbrev Clean : (V : Type 0) → Due V → Type 0
 Clean V d = Clear 10 d.key × ((v : V) → d.plain v → Clear 10 (d.body v))
 
-clean_lines : {A : Type 0} (f : Form A) (a : A) → Every Clean f → Lawful f a → Each (Clear 10) (lines_of f a)
+clean_lines : {A : Type 0} (f : Form A) (a : A) → Every Clean f → Lawful f a → AllByRecursion (Clear 10) (lines_of f a)
 clean_lines (done b) a u h = tt
 clean_lines (line d of next) a u h = (clear_append 10 d.key (d.body (of a)) u.0.0 (u.0.1 (of a) h.0), clean_lines (next (of a)) a (u.1 (of a)) h.2)
 
@@ -40,7 +40,7 @@ clean_sheet taken = every_sheet Clean taken (record {
 })
 
 -- the pieces of lines that have no line feed in them
-pieces_flat : (ls : List (List ℕ)) (rest : List ℕ) → Each (Clear 10) ls → pieces (flat ls ++ rest) ≡ ls ++ pieces rest
+pieces_flat : (ls : List (List ℕ)) (rest : List ℕ) → AllByRecursion (Clear 10) ls → pieces (flat ls ++ rest) ≡ ls ++ pieces rest
 pieces_flat [] rest c = refl
 pieces_flat (l ∷ ls) rest c = ap pieces (append_assoc l (10 ∷ flat ls) rest) ∙ cut_piece 10 l (flat ls ++ rest) c.0 ∙ ap (λ z. l ∷ z) (pieces_flat ls rest c.1)
 

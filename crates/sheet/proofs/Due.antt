@@ -1,16 +1,20 @@
 -- A due line that is absent, malformed, broken or good.
-use Rattle.std.proofs.Common.{◌≡◌, ℕ, ◌+◌, List, [], ◌∷◌, ◌++◌, Some, Option, refl, ap, ◌∙◌, subst, inl, inr}
+use Rattle.std.proofs.Common.{◌≡◌, ℕ, ◌+◌, Bool, true, false, List, [], ◌∷◌, ◌++◌, Some, None, Option, Result, sym, refl, ap, ◌∙◌, subst, inl, inr}
+use Rattle.std.specs.Option.{ok_or}
 use Rattle.std.proofs.lemmas.List.{append_cancel_left}
+use Rattle.values.specs.Parsed.{Parsed}
+use Rattle.sheet.specs.declared.reader.Reader.{Reader}
 use Rattle.sheet.specs.declared.fault.TextFault.{TextFault}
 use Rattle.sheet.specs.declared.fault.TextFault.TheVariants.{Malformed}
 use Rattle.sheet.specs.declared.fault.RowFault.TheVariants.{Text}
 use Rattle.sheet.specs.declared.fault.WiringFault.{WiringFault}
 use Rattle.sheet.specs.declared.fault.WiringFault.TheVariants.{Row}
-use Rattle.sheet.specs.Due.{Asked, Due, Rule, malformed, fault_at, asked, asking, Keeps, FirstBroken, Faulty, Bad, Took}
+use Rattle.sheet.specs.Due.{Asked, Due, Rule, malformed, outside, fault_at, asked, asking, Keeps, FirstBroken, Faulty, Bad, Took}
 use Rattle.sheet.specs.Lines.{Place, Next}
-use Rattle.sheet.specs.Reading.{HandsValue, NoValue}
+use Rattle.sheet.specs.Reading.{at, HandsValue, NoValue}
+use Rattle.sheet.specs.Steps.{ReadBy, no_line, unparsed, turned_down, taken, TextStep}
 
-some_same : {A : Type 0} {o : Option A} {x y : A} → o ≡ Some x → o ≡ Some y → x ≡ y
+pub some_same : {A : Type 0} {o : Option A} {x y : A} → o ≡ Some x → o ≡ Some y → x ≡ y
 some_same p q = cc
 
 module _ {V : Type 0} (d : Due V) (p : Place) where
@@ -33,19 +37,28 @@ module _ {V : Type 0} (d : Due V) (p : Place) where
     pub took : (v : V) → d.plain v × (bytes ≡ d.body v) → Keeps d.asks v → Took d v p q
     took v w k = record { plain = w.0; keeps = k; next = subst (λ z. Next (d.key ++ z) p q) w.1 h.next }
 
--- one rule more, which another layer looks at
-keeps_more : {V : Type 0} (xs : List (Asked V)) (a : Asked V) (v : V) → Keeps xs v → a.holds v → Keeps (xs ++ a ∷ []) v
-keeps_more [] a v k h = (h, tt)
-keeps_more (b ∷ more) a v k h = (k.0, keeps_more more a v k.1 h)
+-- what reading a value answers, once its parse and its test are known
+module _ {V : Type 0} (d : Due V) (a b : Reader) where
+  pub parsed_step : (bytes : List ℕ) (n : ℕ) → HandsValue d.key bytes n (at a) (at b) → d.asks ≡ [] → (o : Option V) → Parsed d.plain d.body bytes o → TextStep d a b (ok_or o (Malformed n))
+  parsed_step bytes n h e None w = misread d (at a) bytes n (at b) h w
+  parsed_step bytes n h e (Some v) w = took d (at a) bytes n (at b) h v w (subst (λ z. Keeps z v) (sym e) tt)
 
+  module _ {parse : List ℕ → Option V → Type 0} {test : V → Bool → Type 0} where
+    pub read_step : {r : Result V TextFault} → ReadBy parse test d.key (at a) (at b) r
+        → ((bytes : List ℕ) (o : Option V) → parse bytes o → Parsed d.plain d.body bytes o)
+        → ((v : V) → test v true → Keeps d.asks v)
+        → ((v : V) → test v false → FirstBroken d.asks v outside)
+        → TextStep d a b r
+    read_step (no_line f h e) reads keeps breaks = rw e (missing d (at a) h)
+    read_step (unparsed bytes n h p e) reads keeps breaks = rw e (misread d (at a) bytes n (at b) h (reads bytes None p))
+    read_step (turned_down bytes n v h p t e) reads keeps breaks = rw e (broken d (at a) bytes n (at b) h v outside (reads bytes (Some v) p) (breaks v t))
+    read_step (taken bytes n v h p t e) reads keeps breaks = rw e (took d (at a) bytes n (at b) h v (reads bytes (Some v) p) (keeps v t))
+
+-- one rule more, which another layer looks at
 broken_more : {V : Type 0} (xs : List (Asked V)) (a : Asked V) (v : V) (q : Rule) → FirstBroken xs v q → FirstBroken (xs ++ a ∷ []) v q
 broken_more [] a v q b = absurd b
 broken_more (c ∷ more) a v q (inl b) = inl b
 broken_more (c ∷ more) a v q (inr b) = inr (b.0, broken_more more a v q b.1)
-
-broken_last : {V : Type 0} (xs : List (Asked V)) (a : Asked V) (v : V) → Keeps xs v → (a.holds v → ⊥) → FirstBroken (xs ++ a ∷ []) v a.rule
-broken_last [] a v k h = inl (h, refl)
-broken_last (b ∷ more) a v k h = inr (k.0, broken_last more a v k.1 h)
 
 module _ {V : Type 0} (d : Due V) (r : Rule) (P : V → Type 0) (p : Place) where
   faulty_more : (l : Option (List ℕ)) (q : Rule) → Faulty d l q → Faulty (asking d r P) l q
@@ -54,10 +67,3 @@ module _ {V : Type 0} (d : Due V) (r : Rule) (P : V → Type 0) (p : Place) wher
 
   pub asking_bad : {f : WiringFault} → Bad d p f → Bad (asking d r P) p f
   asking_bad b = record { rule = b.rule; faulty = faulty_more _ b.rule b.faulty; fault = b.fault }
-
-  module _ (v : V) (q : Place) (t : Took d v p q) where
-    pub asking_took : P v → Took (asking d r P) v p q
-    asking_took h = record { plain = t.plain; keeps = keeps_more d.asks (asked r P) v t.keeps h; next = t.next }
-
-    pub asking_broken : (P v → ⊥) → Bad (asking d r P) p (fault_at r q.line)
-    asking_broken h = record { rule = r; faulty = inr (v, (t.next.due, t.plain), broken_last d.asks (asked r P) v t.keeps h); fault = ap (fault_at r) t.next.line }

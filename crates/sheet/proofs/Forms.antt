@@ -1,5 +1,5 @@
 -- Forms, one line or one part after the other.
-use Rattle.std.proofs.Common.{◌≡◌, ℕ, ◌+◌, List, [], ◌∷◌, ◌++◌, length, Some, sym, refl, ap, ◌∙◌, subst, inl, inr, append_assoc, arith, length-append}
+use Rattle.std.proofs.Common.{◌≡◌, ℕ, ◌+◌, ◌⊎◌, List, [], ◌∷◌, ◌++◌, length, Some, sym, refl, ap, ◌∙◌, subst, inl, inr, append_assoc, arith, length-append}
 use Rattle.sheet.specs.declared.fault.WiringFault.{WiringFault}
 use Rattle.sheet.specs.Due.{Due, written, Took}
 use Rattle.sheet.specs.Form.{Form, done, line, and_then, lines_of, Lawful, SomeLeft, Accepted, Refuses}
@@ -10,6 +10,10 @@ place_same a b = λ i. record { left = a i; line = b i }
 
 never : ◌≡◌ {A = ℕ} 0 1 → ⊥
 never h = omega arith
+
+-- a good line before the one that is bad
+pub past : {V B : Type 0} {d : Due V} {p q : Place} {v : V} {R : V → Place → Type 0} → Took d v p q → R v q → B ⊎ ((w : V) × (m : Place) × Took d w p m × R w m)
+past {q} {v} t r = inr (v, q, t, r)
 
 -- a line feed ended the line, so some piece follows
 pub next_left : (l : List ℕ) (p q : Place) → Next l p q → SomeLeft q.left

@@ -1,13 +1,14 @@
 -- A wired row is lawful.
-use Rattle.std.proofs.Common.{◌≡◌, ℕ, ◌≤◌, Bool, true, false, not, ◌&&◌, ◌||◌, eqb, List, [], ◌∷◌, length, Some, None, Option, refl, arith}
 use borrow.Author.Tests.{clash}
+use Rattle.std.proofs.Common.{◌≡◌, ℕ, ◌≤◌, Bool, true, false, not, ◌&&◌, ◌||◌, eqb, List, [], ◌∷◌, length, Some, None, Option, refl, arith}
 use Rattle.std.specs.List.{list_all}
 use Rattle.std.proofs.lemmas.Bool.{and_parts, leb-true, ltb-true, eqb-true}
 use Rattle.block.specs.Limits.{has_restart}
 use Rattle.block.specs.declared.types.Kind.{Kind}
 use Rattle.values.specs.declared.source.Source.{Source}
 use Rattle.values.specs.declared.source.Source.TheVariants as source
-use Rattle.values.specs.Written.{Each, Short, ShortReset}
+use Rattle.std.specs.List.{AllByRecursion}
+use Rattle.values.specs.Written.{Short, ShortReset}
 use Rattle.sheet.specs.declared.row.Row.{Row}
 use Rattle.sheet.specs.Form.{Lawful}
 use Rattle.sheet.specs.Limits.{last_terminal, most_rows, pin_count}
@@ -33,7 +34,7 @@ source_short source.One w = tt
 source_short (source.Terminal n) w = omega arith
 source_short (source.Row n) w = omega arith
 
-each_wired : (k : ℕ) (P : Source → Type 0) → ((s : Source) → source_wired k s ≡ true → P s) → (ss : List Source) → list_all (source_wired k) ss ≡ true → Each P ss
+each_wired : (k : ℕ) (P : Source → Type 0) → ((s : Source) → source_wired k s ≡ true → P s) → (ss : List Source) → list_all (source_wired k) ss ≡ true → AllByRecursion P ss
 each_wired k P f [] h = tt
 each_wired k P f (s ∷ ss) h = let p = and_parts (source_wired k s) (list_all (source_wired k) ss) h in (f s p.0, each_wired k P f ss p.1)
 

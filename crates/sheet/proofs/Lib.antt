@@ -1,10 +1,9 @@
 pub mod Clean
 pub mod Due
-pub mod Each
 pub mod Every
 pub mod Forms
 pub mod Handed
-pub mod Head
+pub mod Heading
 pub mod Lawful
 pub mod Many
 pub mod Only

@@ -1,6 +1,6 @@
 -- Forms numbered from 0, one after the other.
+use Rattle.std.proofs.lemmas.List.{get_or_at}
 use Rattle.std.proofs.Common.{◌≡◌, ℕ, zero, suc, ◌+◌, ◌-◌, ◌<◌, List, [], ◌∷◌, ◌++◌, length, get_or, take, sym, refl, ap, ◌∙◌, subst, arith, length-take-le, take_all, get_or-take, take-suc, take_at}
-use lib.Seq.{get_or_at}
 use Rattle.sheet.specs.declared.fault.WiringFault.{WiringFault}
 use Rattle.sheet.specs.Form.{Form, done, and_then, many, Lawful, Accepted, Refuses}
 use Rattle.sheet.specs.Lines.{Place}

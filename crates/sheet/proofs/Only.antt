@@ -1,10 +1,11 @@
 -- A form reads lines in one way only, and gives them one fault at most.
-use Rattle.std.proofs.Common.{◌≡◌, ℕ, ◌+◌, List, [], ◌∷◌, Some, Option, sym, ap, ◌∙◌, subst, inl, inr, arith}
+use Rattle.std.proofs.Common.{◌≡◌, ℕ, ◌+◌, List, [], ◌∷◌, Option, sym, ap, ◌∙◌, subst, inl, inr, arith}
 use Rattle.std.proofs.lemmas.List.{append_cancel_left}
 use Rattle.sheet.specs.declared.fault.WiringFault.{WiringFault}
 use Rattle.sheet.specs.Due.{Asked, Due, Rule, fault_at, Reads, Keeps, FirstBroken, Faulty, Bad, Took}
 use Rattle.sheet.specs.Form.{Form, done, line, Accepted, Refuses, Every}
 use Rattle.sheet.specs.Lines.{Place, due}
+use Rattle.sheet.proofs.Due.{some_same}
 use Rattle.sheet.proofs.Forms.{place_same, after, accepted_took, accepted_rest}
 
 -- a line's bytes after its key write one value
@@ -22,9 +23,6 @@ same_rule (a ∷ xs) v q r (inl b) (inl c) = b.1 ∙ sym c.1
 same_rule (a ∷ xs) v q r (inl b) (inr c) = absurd (b.0 c.0)
 same_rule (a ∷ xs) v q r (inr b) (inl c) = absurd (c.0 b.0)
 same_rule (a ∷ xs) v q r (inr b) (inr c) = same_rule xs v q r b.1 c.1
-
-some_same : {A : Type 0} {o : Option A} {x y : A} → o ≡ Some x → o ≡ Some y → x ≡ y
-some_same p q = cc
 
 tails : {l m : List ℕ} {ls ms k : List (List ℕ)} → k ≡ l ∷ ls → k ≡ m ∷ ms → ls ≡ ms
 tails p q = cc

@@ -5,7 +5,7 @@ use Rattle.std.proofs.lemmas.Bool.{and_from, le-leb, lt-ltb, eq-eqb}
 use Rattle.block.specs.declared.types.Kind.{Kind}
 use Rattle.values.specs.declared.source.Source.{Source}
 use Rattle.values.specs.declared.source.Source.TheVariants as source
-use Rattle.values.specs.Written.{Each}
+use Rattle.std.specs.List.{AllByRecursion}
 use Rattle.sheet.specs.declared.row.Row.{Row}
 use Rattle.sheet.specs.Due.{Took}
 use Rattle.sheet.specs.Form.{Accepted}
@@ -21,7 +21,7 @@ source_on k source.One w e = refl
 source_on k (source.Terminal n) w e = le-leb n last_terminal w
 source_on k (source.Row n) w e = lt-ltb n k e
 
-sources_on : (k : ℕ) (ss : List Source) → Each Within ss → Each (Earlier k) ss → list_all (source_wired k) ss ≡ true
+sources_on : (k : ℕ) (ss : List Source) → AllByRecursion Within ss → AllByRecursion (Earlier k) ss → list_all (source_wired k) ss ≡ true
 sources_on k [] w e = refl
 sources_on k (s ∷ ss) w e = and_from (source_wired k s) (list_all (source_wired k) ss) (source_on k s w.0 e.0) (sources_on k ss w.1 e.1)
 

@@ -1,6 +1,6 @@
 -- Records with an invariant are equal where their plain fields are.
+use Rattle.std.proofs.Math.Bool.{Bool-set}
 use Rattle.std.proofs.Common.{◌≡◌, true}
-use mathlib.Core.Bool.{Bool-set}
 use mathlib.Core.HLevel.{is_prop→PathP}
 use Rattle.block.specs.Limits.{settings_allowed, times_allowed}
 use Rattle.block.specs.declared.settings.Settings.{Settings}

@@ -1,8 +1,9 @@
 -- Tables that are filled from the front, while lines are read.
-use Rattle.std.proofs.Common.{◌≡◌, ℕ, ◌+◌, ◌<◌, ◌≢◌, List, [], ◌∷◌, ◌++◌, map, length, get_or, take, set, replicate, sym, ap, ◌∙◌, subst, ⊎_elim, add-one, arith, length-set, length-take-le, get_or-set_other, get_or-set_same}
-use lib.ListN.{length-map, length-replicate, get_or-replicate}
-use Rattle.std.proofs.lemmas.List.{take_more_set, map_push}
-use Rattle.std.proofs.lemmas.Bool.{cases_eq}
+use Rattle.std.proofs.Common.{◌≡◌, ℕ, ◌+◌, ◌-◌, ◌<◌, ◌≤◌, ◌≢◌, List, [], ◌∷◌, ◌++◌, map, length, get_or, take, drop, set, replicate, length-append, length-drop, get_or-drop, get_or-take, sym, ap, ◌∙◌, subst, ⊎_elim, add-one, arith, length-set, length-take-le, get_or-set_other, get_or-set_same}
+use Rattle.std.proofs.lemmas.List.{take_more_set, map_push, length-map, length-replicate, get_or-replicate}
+use Rattle.std.proofs.lemmas.Bool.{cases_eq, cases_lt}
+use Rattle.std.proofs.Math.ListN.{get_or-append}
+use Rattle.std.proofs.Math.Seq.{get_or-append_right}
 use Rattle.values.proofs.Cutting.{cut_cons}
 use Rattle.sheet.specs.declared.reader.Reader.{Reader}
 use Rattle.sheet.specs.declared.row.Row.{Row}
@@ -35,6 +36,27 @@ module _ {X : Type 0} (Good : ℕ → X → Type 0) (Blank : X → Type 0) (most
             (λ e. subst (Good k) (sym (get_or-set_other xs n k x past e)) (t.good k past (omega arith))) (cases_eq k n);
         blank = λ k past m h. let apart : k ≢ n = λ e. omega arith in subst Blank (sym (get_or-set_other xs n k x past apart)) (t.blank k past (omega arith) h);
       }
+
+-- blank places, of which the front is handed out and the back is any
+pub filled_front : {X : Type 0} (Good : ℕ → X → Type 0) (Blank : X → Type 0) (most n : ℕ) (x : X) (back : List X) → n ≤ most → Blank x → length back ≡ most - n → ((k : ℕ) (past : X) → k < length back → Blank (get_or back k past)) → Filled Good Blank most 0 (take n (replicate most x) ++ back)
+filled_front Good Blank most n x back le h long rest =
+    let all = length-replicate most x in
+    let front : length (take n (replicate most x)) ≡ n = length-take-le n (replicate most x) (omega arith) in
+    record {
+      full = length-append (take n (replicate most x)) back ∙ (let e : length (take n (replicate most x)) + length back ≡ most = omega arith in e);
+      good = λ k past l. absurd (omega arith);
+      blank = λ k past l m. ⊎_elim
+          (λ below. subst Blank (sym (get_or-append (take n (replicate most x)) back past k (omega arith) ∙ get_or-take n (replicate most x) k past below ∙ get_or-replicate most k x past m)) h)
+          (λ above. subst Blank (sym (get_or-append_right (take n (replicate most x)) back k past (omega arith))) (rest (k - length (take n (replicate most x))) past (omega arith)))
+          (cases_lt k n);
+    }
+
+-- what is left behind the front of blank places
+pub back_blank : {X : Type 0} (Blank : X → Type 0) (most n : ℕ) (x : X) → n ≤ most → Blank x → (length (drop n (replicate most x)) ≡ most - n) × ((k : ℕ) (past : X) → k < length (drop n (replicate most x)) → Blank (get_or (drop n (replicate most x)) k past))
+back_blank Blank most n x le h =
+    let all = length-replicate most x in
+    let long : length (drop n (replicate most x)) ≡ most - n = length-drop n (replicate most x) ∙ ap (λ y. y - n) all in
+    (long, λ k past l. subst Blank (sym (get_or-drop n (replicate most x) k past ∙ get_or-replicate most (n + k) x past (omega arith))) h)
 
 some_left : (a : Reader) → (l : List ℕ) × (ms : List (List ℕ)) × ((at a).left ≡ l ∷ ms)
 some_left a = cut_cons 10 a.rest.now

@@ -1,7 +1,6 @@
 -- Every wiring is lawful, and its text is read as its lines.
 use Rattle.std.proofs.Common.{◌≡◌, ℕ, ◌<◌, ◌≤◌, Bool, ◌&&◌, leb, List, ◌++◌, map, length, get_or, sym, refl, ◌∙◌, subst, arith}
-use lib.ListN.{length-map}
-use Rattle.std.proofs.lemmas.List.{get_or-map}
+use Rattle.std.proofs.lemmas.List.{get_or-map, length-map}
 use Rattle.std.proofs.lemmas.Bool.{and_parts, leb-true}
 use Rattle.block.specs.declared.types.Kind.{Kind}
 use Rattle.values.proofs.Cutting.{cut_cons}

@@ -1,13 +1,10 @@
 -- The rows and outputs of a wiring keep what its tables keep.
-use Rattle.std.proofs.Common.{◌≡◌, ℕ, ◌-◌, ◌<◌, true, eqb, ltb, get_or, sym, ap, ◌∙◌, subst, arith, length-take-le, get_or-take}
+use Rattle.std.proofs.Common.{◌≡◌, ◌<◌, true, eqb, ltb, get_or, sym, ap, ◌∙◌, subst, arith, length-take-le, get_or-take}
 use Rattle.std.proofs.lemmas.Bool.{cond-true, lt-ltb, ltb-true}
 use Rattle.sheet.specs.declared.wiring.Wiring.{Wiring}
 use Rattle.sheet.specs.Wired.{row_wired, row_blank}
 use Rattle.sheet.specs.Wires.{listed, routed, RowsWired, OutsWired}
 use Rattle.sheet.proofs.Wired.{RowsTable, OutsTable, wiring_from}
-
-pub same_count : (n : ℕ) → n - 0 ≡ n
-same_count n = omega arith
 
 module _ (w : Wiring) where
   pub rows_table : RowsTable w.count w.rows

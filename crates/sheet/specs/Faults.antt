@@ -1,19 +1,12 @@
 -- The number, the line and the layer of each fault.
-use Rattle.std.specs.Prelude.{ℕ}
-use Rattle.sheet.specs.declared.fault.Layer.{Layer}
 use Rattle.sheet.specs.declared.fault.Layer.TheVariants as layer
 use Rattle.sheet.specs.declared.fault.TextFault.{TextFault}
 use Rattle.sheet.specs.declared.fault.TextFault.TheVariants.{TooLong, Malformed, Limit, Trailing}
 use Rattle.sheet.specs.declared.fault.RowFault.{RowFault}
 use Rattle.sheet.specs.declared.fault.RowFault.TheVariants.{Text, NotAllowed, BadTimes}
+use Rattle.sheet.specs.declared.fault.Told.{Told}
 use Rattle.sheet.specs.declared.fault.WiringFault.{WiringFault}
 use Rattle.sheet.specs.declared.fault.WiringFault.TheVariants.{Row, NotEarlier, NotOnSheet}
-
--- what a refusal tells
-pub record Told : Type 0 where
-  pub number : ℕ
-  pub line : ℕ
-  pub layer : Layer
 
 abbrev pub text_told : TextFault → Told
 text_told TooLong = record { number = 11; line = 0; layer = layer.Text }

@@ -5,7 +5,8 @@ use Rattle.block.specs.declared.types.Kind.{Kind}
 use Rattle.block.specs.declared.types.Kind.TheVariants.{And, Or, Estop}
 use Rattle.values.specs.declared.source.Source.{Source}
 use Rattle.values.specs.declared.source.Source.TheVariants.{Zero, One, Terminal, Row}
-use Rattle.values.specs.Written.{Any, TwoDigits, FiveDigits, Short, FourShort, ShortReset, Each, two, row_text, source_text, pins_text, reset_text, kind_word, flag_text}
+use Rattle.std.specs.List.{AllByRecursion}
+use Rattle.values.specs.Written.{Any, TwoDigits, FiveDigits, Short, FourShort, ShortReset, two, row_text, source_text, pins_text, reset_text, kind_word, flag_text}
 use Rattle.sheet.specs.Due.{Due, asked, asking, outside, not_earlier, off_sheet, not_allowed, bad_times}
 use Rattle.sheet.specs.Form.{Form, done, line, and_then, many}
 use Rattle.sheet.specs.Limits.{most_rows, last_row, most_outs, last_terminal, least_time, most_time}
@@ -78,11 +79,11 @@ abbrev pub act_due : ℕ → Due Source
 act_due k = asking act_text_due not_earlier (Earlier k)
 
 abbrev pub pins_text_due : Due (List Source)
-pins_text_due = record { key = codes "pins="; body = pins_text; plain = FourShort; asks = asked outside (Each Within) ∷ [] }
+pins_text_due = record { key = codes "pins="; body = pins_text; plain = FourShort; asks = asked outside (AllByRecursion Within) ∷ [] }
 
 -- `pins=` of row k
 abbrev pub pins_due : ℕ → Due (List Source)
-pins_due k = asking pins_text_due not_earlier (Each (Earlier k))
+pins_due k = asking pins_text_due not_earlier (AllByRecursion (Earlier k))
 
 abbrev pub reset_due : Due (Option ℕ)
 reset_due = record { key = codes "reset="; body = reset_text; plain = ShortReset; asks = asked outside WithinReset ∷ [] }

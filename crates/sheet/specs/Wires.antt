@@ -1,7 +1,7 @@
 -- A wiring's rows and outputs, without the blank rest of its tables.
 use Rattle.std.specs.Prelude.{◌≡◌, ℕ, ◌<◌, true, List, length, take, slice_index, slice_index_or}
-use Rattle.block.specs.declared.times.Times.{Times}
 use Rattle.sheet.specs.declared.row.Row.{Row}
+use Rattle.sheet.specs.declared.head.Head.{Head}
 use Rattle.sheet.specs.declared.wiring.Wiring.{Wiring}
 use Rattle.sheet.specs.Wired.{row_wired}
 
@@ -14,11 +14,11 @@ abbrev pub routed : Wiring → List ℕ
 routed w = take w.outputs w.outs
 
 -- w is made of these
-pub record MadeOf (t : Times) (c : ℕ) (rs : List Row) (o : ℕ) (os : List ℕ) (w : Wiring) : Type 0 where
-  pub times : w.times ≡ t
-  pub count : w.count ≡ c
+pub record MadeOf (h : Head) (rs : List Row) (os : List ℕ) (w : Wiring) : Type 0 where
+  pub times : w.times ≡ h.times
+  pub count : w.count ≡ h.count
   pub rows : w.rows ≡ rs
-  pub outputs : w.outputs ≡ o
+  pub outputs : w.outputs ≡ h.outputs
   pub outs : w.outs ≡ os
 
 -- `count` rows, the sources of each of which are constants, terminals and earlier rows

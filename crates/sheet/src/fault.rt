@@ -1,8 +1,10 @@
 // What is wrong with a sheet, by layer; each fault holds the number of its line.
-ghost use Rattle.std.specs.Prelude.{◌≡◌};
+ghost use Rattle.std.specs.Prelude.{◌≡◌, ℕ, List};
+ghost use Rattle.sheet.specs.declared.fault.Told.{Told};
 ghost use Rattle.sheet.specs.declared.fault.RowFault.TheVariants.{Text};
 ghost use Rattle.sheet.specs.declared.fault.WiringFault.TheVariants.{Row};
 ghost use Rattle.sheet.specs.Faults.{text_told, row_told, wiring_told};
+ghost use Rattle.sheet.specs.Words.{text_reason, row_reason, wiring_reason};
 
 // Who has to mend a fault: the typist, the one who sets up a row, or the one who draws the wiring.
 #[derive(Clone, Copy, PartialEq, Eq)]
@@ -53,98 +55,123 @@ impl From<RowFault> for WiringFault {
     }
 }
 
-impl TextFault {
-    // The refusal's number.
-    pub fn number(self) -> u8
-        ensures { result ≡ (text_told self).number }
+// What a refusal tells: its number, its line of the sheet, counted from 1, or 0 for the whole sheet, and its layer.
+#[derive(Clone, Copy)]
+pub struct Told {
+    pub number: u8,
+    pub line: u16,
+    pub layer: Layer,
+}
+
+impl Told {
+    fn new(number: u8, line: u16, layer: Layer) -> Told
+        ensures { (result.number ≡ number) × (result.line ≡ line) × (result.layer ≡ layer) }
     {
-        match self {
-            TextFault::TooLong => 11,
-            TextFault::Malformed(_) => 12,
-            TextFault::Limit(_) => 13,
-            TextFault::Trailing(_) => 17,
+        Told {
+            number,
+            line,
+            layer,
         }
+    }
+}
+
+// A fault of some layer: what its refusal tells, and why, in words that the one who wires the machine understands.
+pub trait Fault: Copy {
+    ghost told: { Self → Told };
+
+    ghost reason: { Self → List ℕ };
+
+    fn told(self) -> Told
+        ensures { result ≡ told self };
+
+    fn reason(self) -> &'static str
+        ensures { result.now ≡ reason self };
+
+    // The refusal's number; a method and no `From`, since a fault tells three things.
+    fn number(self) -> u8
+        ensures { result ≡ (told self).number }
+    {
+        self.told().number
     }
 
     // The line of the sheet, counted from 1; 0 for the whole sheet.
-    pub fn line(self) -> u16
-        ensures { result ≡ (text_told self).line }
+    fn line(self) -> u16
+        ensures { result ≡ (told self).line }
     {
-        match self {
-            TextFault::TooLong => 0,
-            TextFault::Malformed(line) => line,
-            TextFault::Limit(line) => line,
-            TextFault::Trailing(line) => line,
-        }
+        self.told().line
     }
 
-    pub fn layer(self) -> Layer
-        ensures { result ≡ (text_told self).layer }
+    fn layer(self) -> Layer
+        ensures { result ≡ (told self).layer }
     {
-        Layer::Text
+        self.told().layer
     }
 }
 
-impl RowFault {
-    pub fn number(self) -> u8
-        ensures { result ≡ (row_told self).number }
-    {
+impl Fault for TextFault {
+    ghost told = { text_told };
+
+    ghost reason = { text_reason };
+
+    fn told(self) -> Told {
         match self {
-            RowFault::Text(fault) => fault.number(),
-            RowFault::NotAllowed(_) => 15,
-            RowFault::BadTimes(_) => 16,
+            TextFault::TooLong => Told::new(11, 0, Layer::Text),
+            TextFault::Malformed(line) => Told::new(12, line, Layer::Text),
+            TextFault::Limit(line) => Told::new(13, line, Layer::Text),
+            TextFault::Trailing(line) => Told::new(17, line, Layer::Text),
         }
     }
 
-    pub fn line(self) -> u16
-        ensures { result ≡ (row_told self).line }
-    {
+    fn reason(self) -> &'static str {
         match self {
-            RowFault::Text(fault) => fault.line(),
-            RowFault::NotAllowed(line) => line,
-            RowFault::BadTimes(line) => line,
-        }
-    }
-
-    pub fn layer(self) -> Layer
-        ensures { result ≡ (row_told self).layer }
-    {
-        match self {
-            RowFault::Text(fault) => fault.layer(),
-            RowFault::NotAllowed(_) => Layer::Row,
-            RowFault::BadTimes(_) => Layer::Row,
+            TextFault::TooLong => "the sheet has more than 4096 bytes",
+            TextFault::Malformed(_) => "this line is missing or is not written as it must be",
+            TextFault::Limit(_) => "a number in this line is outside its limits",
+            TextFault::Trailing(_) => "something follows the last line",
         }
     }
 }
 
-impl WiringFault {
-    pub fn number(self) -> u8
-        ensures { result ≡ (wiring_told self).number }
-    {
+impl Fault for RowFault {
+    ghost told = { row_told };
+
+    ghost reason = { row_reason };
+
+    fn told(self) -> Told {
         match self {
-            WiringFault::Row(fault) => fault.number(),
-            WiringFault::NotEarlier(_) => 14,
-            WiringFault::NotOnSheet(_) => 14,
+            RowFault::Text(fault) => fault.told(),
+            RowFault::NotAllowed(line) => Told::new(15, line, Layer::Row),
+            RowFault::BadTimes(line) => Told::new(16, line, Layer::Row),
         }
     }
 
-    pub fn line(self) -> u16
-        ensures { result ≡ (wiring_told self).line }
-    {
+    fn reason(self) -> &'static str {
         match self {
-            WiringFault::Row(fault) => fault.line(),
-            WiringFault::NotEarlier(line) => line,
-            WiringFault::NotOnSheet(line) => line,
+            RowFault::Text(fault) => fault.reason(),
+            RowFault::NotAllowed(_) => "only an estop may have this setting at 1",
+            RowFault::BadTimes(_) => "min must be at least 100, and max at least min",
+        }
+    }
+}
+
+impl Fault for WiringFault {
+    ghost told = { wiring_told };
+
+    ghost reason = { wiring_reason };
+
+    fn told(self) -> Told {
+        match self {
+            WiringFault::Row(fault) => fault.told(),
+            WiringFault::NotEarlier(line) => Told::new(14, line, Layer::Wiring),
+            WiringFault::NotOnSheet(line) => Told::new(14, line, Layer::Wiring),
         }
     }
 
-    pub fn layer(self) -> Layer
-        ensures { result ≡ (wiring_told self).layer }
-    {
+    fn reason(self) -> &'static str {
         match self {
-            WiringFault::Row(fault) => fault.layer(),
-            WiringFault::NotEarlier(_) => Layer::Wiring,
-            WiringFault::NotOnSheet(_) => Layer::Wiring,
+            WiringFault::Row(fault) => fault.reason(),
+            WiringFault::NotEarlier(_) => "a source must be an earlier row",
+            WiringFault::NotOnSheet(_) => "the row of this output is not on the sheet",
         }
     }
 }

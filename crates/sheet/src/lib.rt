@@ -2,6 +2,7 @@
 #![tactic(auto)]
 
 pub mod fault;
+mod head;
 mod limits;
 pub mod load;
 mod reader;
@@ -13,7 +14,7 @@ pub mod wiring;
 mod wiring_lines;
 pub mod words;
 
-pub use fault::{Layer, RowFault, TextFault, WiringFault};
+pub use fault::{Fault, Layer, RowFault, TextFault, Told, WiringFault};
 pub use load::load_sheet;
 pub use row::Row;
 pub use theorems::{one_verdict, one_wiring, rules_in_order, texts_are_short};

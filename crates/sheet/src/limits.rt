@@ -2,7 +2,7 @@
 ghost use Rattle.std.specs.Prelude.{◌≡◌, ◌<◌, ◌≤◌, true, length, Decides, nat_lt};
 ghost use Rattle.sheet.specs.Limits.{most_bytes, last_row, most_time};
 ghost use Rattle.sheet.specs.Sheet.{known, flag_allowed, Counts, Within, WithinReset, Earlier};
-ghost use Rattle.values.specs.Written.{Each};
+ghost use Rattle.std.specs.List.{AllByRecursion};
 
 use block::Kind;
 use values::Source;
@@ -16,7 +16,7 @@ pub fn is_too_long(sheet: &[u8]) -> bool
 pub fn is_count(n: u8, most: u8) -> bool
     ensures { Decides result (Counts most n) }
 {
-    1 <= n && n <= most
+    (1..=most).contains(&n)
 }
 
 pub fn is_time(n: u32) -> bool
@@ -36,9 +36,7 @@ pub fn is_known(kind: Kind) -> bool
     ensures { result ≡ known kind }
 {
     match kind {
-        Kind::And => true,
-        Kind::Or => true,
-        Kind::Estop => true,
+        Kind::And | Kind::Or | Kind::Estop => true,
     }
 }
 
@@ -59,23 +57,15 @@ pub fn is_within(source: Source) -> bool
 }
 
 pub fn are_within(pins: &[Source]) -> bool
-    ensures { Decides result (Each Within pins.now) }
+    ensures { Decides result (AllByRecursion Within pins.now) }
 {
-    for pin in pins {
-        if !is_within(*pin) {
-            return false;
-        }
-    }
-    true
+    pins.iter().all(|pin| is_within(*pin))
 }
 
 pub fn is_reset_within(reset: Option<u8>) -> bool
     ensures { Decides result (WithinReset reset) }
 {
-    match reset {
-        Some(n) => n <= 63,
-        None => true,
-    }
+    reset.is_none_or(|n| n <= 63)
 }
 
 pub fn is_row(n: u8) -> bool
@@ -95,18 +85,13 @@ pub fn is_earlier(source: Source, row: u8) -> bool
 }
 
 pub fn are_earlier(pins: &[Source], row: u8) -> bool
-    ensures { Decides result (Each (Earlier row) pins.now) }
+    ensures { Decides result (AllByRecursion (Earlier row) pins.now) }
 {
-    for pin in pins {
-        if !is_earlier(*pin, row) {
-            return false;
-        }
-    }
-    true
+    pins.iter().all(|pin| is_earlier(*pin, row))
 }
 
 pub fn is_on_sheet(row: u8, count: u8) -> bool
     ensures { Decides result (row < count) }
 {
-    count > row
+    row < count
 }

@@ -9,6 +9,7 @@ use block::Times;
 pub mod ops;
 
 // `count` rows and `outputs` outputs, each with its row; what stands past them in the tables is blank.
+// Tables of a fixed size beside their counts: a wiring is `Copy`, which the kit's `ArrayVec` would not be, and a heap is barred.
 #[derive(Clone, Copy)]
 pub struct Wiring {
     times: Times,

@@ -1,8 +1,8 @@
-// A fault in words that the one who wires the machine understands.
+// Layers and faults as they are printed.
 ghost use Rattle.std.specs.Prelude.{◌≡◌, Some};
-ghost use Rattle.sheet.specs.Words.{layer_word, text_reason, row_reason, wiring_reason, fault_shown};
+ghost use Rattle.sheet.specs.Words.{layer_word, fault_shown};
 
-use crate::fault::{Layer, RowFault, TextFault, WiringFault};
+use crate::fault::{Fault, Layer, WiringFault};
 use std::fmt;
 
 impl Layer {
@@ -17,40 +17,11 @@ impl Layer {
     }
 }
 
-impl TextFault {
-    pub fn reason(self) -> &'static str
-        ensures { result.now ≡ text_reason self }
-    {
-        match self {
-            TextFault::TooLong => "the sheet has more than 4096 bytes",
-            TextFault::Malformed(_) => "this line is missing or is not written as it must be",
-            TextFault::Limit(_) => "a number in this line is outside its limits",
-            TextFault::Trailing(_) => "something follows the last line",
-        }
-    }
-}
+impl fmt::Display for Layer {
+    ghost output = { λ l. Some (layer_word l) };
 
-impl RowFault {
-    pub fn reason(self) -> &'static str
-        ensures { result.now ≡ row_reason self }
-    {
-        match self {
-            RowFault::Text(fault) => fault.reason(),
-            RowFault::NotAllowed(_) => "only an estop may have this setting at 1",
-            RowFault::BadTimes(_) => "min must be at least 100, and max at least min",
-        }
-    }
-}
-
-impl WiringFault {
-    pub fn reason(self) -> &'static str
-        ensures { result.now ≡ wiring_reason self }
-    {
-        match self {
-            WiringFault::Row(fault) => fault.reason(),
-            WiringFault::NotEarlier(_) => "a source must be an earlier row",
-            WiringFault::NotOnSheet(_) => "the row of this output is not on the sheet",
-        }
+    fn fmt<W: fmt::Write>(&self, f: &mut fmt::Formatter<W>) -> fmt::Result {
+        f.pad(self.word())
     }
 }
 
@@ -61,7 +32,7 @@ impl fmt::Display for WiringFault {
     fn fmt<W: fmt::Write>(&self, f: &mut fmt::Formatter<W>) -> fmt::Result {
         let number = self.number();
         let line = self.line();
-        let layer = self.layer().word();
+        let layer = self.layer();
         let reason = self.reason();
         write!(f, "refused {number} line {line} {layer}: {reason}")
     }

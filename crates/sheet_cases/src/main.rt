@@ -6,6 +6,7 @@ mod wholes;
 
 use sheet::load_sheet;
 use std::alloc::{AllocError, Global};
+use std::fmt::Display;
 use std::io;
 
 // A good sheet: an emergency stop, and a gate that is active while the stop is on.
@@ -30,30 +31,33 @@ const BASE: [&str; 18] = [
     "out=r00",
 ];
 
-// The good sheet with another text in one line; the lines are counted from 1.
-fn altered(heap: Global, line: usize, text: &str) -> Result<Vec<u8>, AllocError> {
+// The good sheet, or the sheet with another text in one line; the lines are counted from 1.
+fn altered(heap: Global, change: Option<(usize, &str)>) -> Result<Vec<u8>, AllocError> {
     let mut sheet = Vec::new(heap);
-    for (i, kept) in BASE.iter().enumerate() {
-        if i < line && i + 1 >= line {
-            sheet.extend_from_slice(text.as_bytes())?;
-        } else {
-            sheet.extend_from_slice(kept.as_bytes())?;
-        }
+    for (number, kept) in (1..).zip(BASE) {
+        let written = match change {
+            Some((line, text)) if line == number => text,
+            _ => kept,
+        };
+        sheet.extend_from_slice(written.as_bytes())?;
         sheet.extend_from_slice(b"\n")?;
     }
     Ok(sheet)
 }
 
-// What the loader answers.
-fn answer(rt: &impl Print, sheet: &[u8]) -> io::Result<()> {
+// What the loader answers to a sheet, after a word on the sheet.
+fn say(rt: &impl Print, what: impl Display + Drop, sheet: &[u8]) -> io::Result<()> {
+    print!(rt; "{what}: ")?;
     match load_sheet(sheet) {
         Ok(wiring) => {
-            let rows = wiring.count();
-            let outs = wiring.outputs();
             let times = wiring.times();
-            let min = times.min();
-            let max = times.max();
-            println!(rt; "accepted, {rows} rows, {outs} outputs, {min} to {max} ms")
+            println!(rt;
+                "accepted, {} rows, {} outputs, {} to {} ms",
+                wiring.count(),
+                wiring.outputs(),
+                times.min(),
+                times.max(),
+            )
         }
         Err(fault) => println!(rt; "{fault}"),
     }
@@ -64,20 +68,16 @@ fn run_case(rt: &impl Print, heap: Global, case: &str) -> io::Result<()> {
     let Some((number, text)) = case.split_once(' ') else {
         return println!(rt; "no case: {case}");
     };
-    match number.parse::<usize>() {
-        Ok(line) => {
-            let sheet = altered(heap, line, text)?;
-            print!(rt; "line {line} `{text}`: ")?;
-            answer(rt, sheet.as_slice())
-        }
-        Err(_) => println!(rt; "no line: {case}"),
-    }
+    let Ok(line) = number.parse::<usize>() else {
+        return println!(rt; "no line: {case}");
+    };
+    let sheet = altered(heap, Some((line, text)))?;
+    say(rt, format_args!("line {line} `{text}`"), sheet.as_slice())
 }
 
 fn main(rt: HostRuntime) -> io::Result<()> {
     for case in rt.lines(rt.alloc()) {
-        let case = case?;
-        run_case(&rt, rt.alloc(), case.as_str())?;
+        run_case(&rt, rt.alloc(), case?.as_str())?;
     }
     wholes::run(&rt, rt.alloc())
 }

@@ -1,5 +1,5 @@
 -- Every stack stands, by induction on its depth.
-use borrow.Author.Rules.{rules}
+use Rattle.std.proofs.Common.{rules}
 use Rattle.block.specs.Laws.{Laws}
 use Rattle.block.specs.Rises.{Rises}
 use Rattle.button.specs.Laws.{button_steps}

@@ -1,6 +1,5 @@
 -- A row needs a terminal exactly if its mask has it.
-use Rattle.std.proofs.Common.{◌≡◌, ℕ, ◌+◌, ◌<◌, Bool, true, false, ◌&&◌, ◌||◌, ◌↔◌, List, get_or, sym, refl, ap, ◌∙◌, inl, inr, ⊎_elim, arith}
-use lib.Bits.{bit_or}
+use Rattle.std.proofs.Common.{◌≡◌, ℕ, ◌+◌, ◌<◌, Bool, true, false, ◌&&◌, ◌||◌, ◌↔◌, List, get_or, sym, refl, ap, ◌∙◌, inl, inr, ⊎_elim, arith, bit_or}
 use Rattle.std.proofs.lemmas.Bool.{and_from, and_parts, both_ways, cases_Bool, cases_eq, or_cases, or_left, or_right}
 use Rattle.block.specs.declared.types.Word.{Word}
 use Rattle.sheet.specs.declared.row.Row.{Row}

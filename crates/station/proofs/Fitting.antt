@@ -1,6 +1,6 @@
 -- A call that leaves what its effect says takes a station that fits a history to one that fits the longer history.
+use Rattle.std.proofs.Math.Nat.{zero-div}
 use Rattle.std.proofs.Common.{◌≡◌, ℕ, zero, suc, ◌/◌, ◌%◌, ◌^◌, ◌<◌, Bool, false, ◌&&◌, eqb, ltb, List, ◌∷◌, length, get_or, sym, refl, ap, ◌∙◌, subst, ⊎_elim, arith}
-use native.Mathlib.Nat.{zero-div}
 use Rattle.std.proofs.lemmas.Bool.{cases_lt, cases_Bool, ltb-true}
 use Rattle.block.specs.Laws.{StepLaws}
 use Rattle.block.specs.Meaning.{Meaning}

@@ -8,10 +8,10 @@ pub mod Loading
 pub mod Local
 pub mod Masks
 pub mod Needed
-pub mod Placing
 pub mod Promises
 pub mod Reading
 pub mod Releases
 pub mod Rule
 pub mod Running
 pub mod Wiring
+pub mod Walks

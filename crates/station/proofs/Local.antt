@@ -1,7 +1,8 @@
 -- A row sees the earlier rows alone, so a scan in order is a scan.
-use Rattle.std.proofs.Common.{◌≡◌, ℕ, ◌+◌, ◌<◌, ◌≤◌, Bool, true, ◌≢◌, List, length, set, sym, refl, ap, ◌∙◌, ⊎_elim, arith, get_or-set_other, get_or-set_same}
+use Rattle.std.proofs.Common.{◌≡◌, ℕ, ◌+◌, ◌<◌, ◌≤◌, Bool, true, ◌≢◌, List, length, take, set, sym, refl, ap, ◌∙◌, ⊎_elim, arith, get_or-set_other, get_or-set_same, get_or-take}
 use Rattle.std.proofs.lemmas.Bool.{cases_eq, ltb-true}
 use Rattle.block.specs.Meaning.{Meaning}
+use Rattle.block.specs.Modes.{is_on}
 use Rattle.sheet.specs.declared.row.Row.{Row}
 use Rattle.sheet.specs.Wired.{source_wired}
 use Rattle.values.specs.declared.source.Source.{Source}
@@ -25,6 +26,11 @@ module _ (image : List ℕ) (ons ons' : ℕ → Bool) (k : ℕ) (same : (j : ℕ
       let p2 = source_local (pin r 2) w.pin2 in
       let p3 = source_local (pin r 3) w.pin3 in
       cc
+
+-- the blocks of the earlier rows serve a row as the whole table does
+pub input_earlier : {B : Type 0} (m : Meaning B) (t : List B) (k : ℕ) (image last : List ℕ) (elapsed : ℕ) (r : Row) → WiredRow k r → input_of image last elapsed (on_in m (at m (take k t))) r ≡ input_of image last elapsed (on_in m (at m t)) r
+input_earlier m t k image last elapsed r w =
+    input_local image _ _ k (λ j lt. ap (λ b. is_on (m.mode b)) (get_or-take k t j (m.made blank_setup) lt)) last elapsed r w
 
 -- one turn of the loop over the rows: the blocks below row n are stepped, and now row n
 module _ {B : Type 0} (m : Meaning B) (rows : List Row) (image last : List ℕ) (elapsed : ℕ) (f : ℕ → B) (t : List B) (n : ℕ) (b : B)

@@ -1,5 +1,6 @@
 -- The rule of needs: a row sees the earlier rows alone, so the masks of a loop keep it, and it has one list.
-use Rattle.std.proofs.Common.{◌≡◌, ℕ, zero, suc, ◌+◌, ◌<◌, ◌≤◌, Bool, true, false, ◌≢◌, ◌↔◌, List, length, get_or, set, sym, refl, ap, ◌∙◌, subst, inl, inr, ⊎_elim, arith, get_or-set_other, get_or-set_same}
+use Rattle.std.proofs.Common.{◌≡◌, ℕ, zero, suc, ◌+◌, ◌<◌, ◌≤◌, Bool, true, false, ◌↔◌, List, length, get_or, [], ◌∷◌, ◌++◌, sym, refl, ap, ◌∙◌, subst, inl, inr, ⊎_elim, arith, get_or-append-add}
+use Rattle.std.proofs.Math.ListN.{get_or-append}
 use Rattle.std.proofs.lemmas.Bool.{cases_Bool, cases_eq, ltb-true}
 use Rattle.block.specs.declared.types.Word.{Word}
 use Rattle.sheet.specs.declared.row.Row.{Row}
@@ -31,28 +32,28 @@ module _ (f g : ℕ → ℕ → Bool) (k t : ℕ) (same : (j : ℕ) → j < k �
         pin3 = λ h. off.pin3 (sym (source_same (pin r 3) w.pin3) ∙ h);
       })))
 
--- one turn of the loop over the rows
-module _ (clear : ℕ → Word → Bool) (rows : List Row) (wired : Wired rows) (xs : List ℕ) (n b : ℕ) (on_sheet : n < length rows) (within : n < length xs)
-    (inv : (j t : ℕ) → j < n → t < terminals → (masked xs j t ≡ true) ↔ RowNeeds (clear j) (masked xs) (row_at rows j) t)
-    (is : (t : ℕ) → t < terminals → (bit_at b t ≡ true) ↔ RowNeeds (clear n) (masked xs) (row_at rows n) t) where
-  other : (j t : ℕ) → j ≢ n → masked (set xs n b) j t ≡ masked xs j t
-  other j t ne = ap (λ x. bit_at x t) (get_or-set_other xs n j b 0 ne)
+-- one turn of the loop over the rows: the mask b of the next row is added
+module _ (clear : ℕ → Word → Bool) (rows : List Row) (wired : Wired rows) (xs : List ℕ) (b : ℕ) (on_sheet : length xs < length rows)
+    (inv : (j t : ℕ) → j < length xs → t < terminals → (masked xs j t ≡ true) ↔ RowNeeds (clear j) (masked xs) (row_at rows j) t)
+    (is : (t : ℕ) → t < terminals → (bit_at b t ≡ true) ↔ RowNeeds (clear (length xs)) (masked xs) (row_at rows (length xs)) t) where
+  before : (j t : ℕ) → j < length xs → masked (xs ++ b ∷ []) j t ≡ masked xs j t
+  before j t lt = ap (λ x. bit_at x t) (get_or-append xs (b ∷ []) 0 j lt)
 
-  here : (t : ℕ) → masked (set xs n b) n t ≡ bit_at b t
-  here t = ap (λ x. bit_at x t) (get_or-set_same xs n b 0 within)
+  here : (t : ℕ) → masked (xs ++ b ∷ []) (length xs) t ≡ bit_at b t
+  here t = ap (λ n. bit_at (get_or (xs ++ b ∷ []) n 0) t) (let z : length xs ≡ length xs + 0 = omega arith in z) ∙ ap (λ x. bit_at x t) (get_or-append-add xs (b ∷ []) 0 0)
 
-  kept : (j t : ℕ) → j ≤ n → j < length rows → (x : Bool) → (x ≡ true) ↔ RowNeeds (clear j) (masked xs) (row_at rows j) t → masked (set xs n b) j t ≡ x → (masked (set xs n b) j t ≡ true) ↔ RowNeeds (clear j) (masked (set xs n b)) (row_at rows j) t
-  kept j t le lt x both e = (
-    (λ on. needs_local (masked xs) (masked (set xs n b)) j t (λ i l. sym (other i t (omega arith))) (clear j) (row_at rows j) (wired j lt) (both.0 (sym e ∙ on))),
-    (λ needs. e ∙ both.1 (needs_local (masked (set xs n b)) (masked xs) j t (λ i l. other i t (omega arith)) (clear j) (row_at rows j) (wired j lt) needs)),
+  kept : (j t : ℕ) → j ≤ length xs → j < length rows → {x : Bool} → (x ≡ true) ↔ RowNeeds (clear j) (masked xs) (row_at rows j) t → masked (xs ++ b ∷ []) j t ≡ x → (masked (xs ++ b ∷ []) j t ≡ true) ↔ RowNeeds (clear j) (masked (xs ++ b ∷ [])) (row_at rows j) t
+  kept j t le lt both e = (
+    (λ on. needs_local (masked xs) (masked (xs ++ b ∷ [])) j t (λ i l. sym (before i t (omega arith))) (clear j) (row_at rows j) (wired j lt) (both.0 (sym e ∙ on))),
+    (λ needs. e ∙ both.1 (needs_local (masked (xs ++ b ∷ [])) (masked xs) j t (λ i l. before i t (omega arith)) (clear j) (row_at rows j) (wired j lt) needs)),
   )
 
-  pub mask_more : (j t : ℕ) → j < n + 1 → t < terminals → (masked (set xs n b) j t ≡ true) ↔ RowNeeds (clear j) (masked (set xs n b)) (row_at rows j) t
+  pub mask_more : (j t : ℕ) → j < length xs + 1 → t < terminals → (masked (xs ++ b ∷ []) j t ≡ true) ↔ RowNeeds (clear j) (masked (xs ++ b ∷ [])) (row_at rows j) t
   mask_more j t lt small =
       ⊎_elim
-      (λ e. subst (λ i. (masked (set xs n b) i t ≡ true) ↔ RowNeeds (clear i) (masked (set xs n b)) (row_at rows i) t) (sym e) (kept n t (omega arith) on_sheet (bit_at b t) (is t small) (here t)))
-      (λ ne. kept j t (omega arith) (omega arith) (masked xs j t) (inv j t (omega arith) small) (other j t ne))
-      (cases_eq j n)
+      (λ e. subst (λ i. (masked (xs ++ b ∷ []) i t ≡ true) ↔ RowNeeds (clear i) (masked (xs ++ b ∷ [])) (row_at rows i) t) (sym e) (kept (length xs) t (omega arith) on_sheet (is t small) (here t)))
+      (λ ne. let l : j < length xs = omega arith in kept j t (omega arith) (omega arith) (inv j t l small) (before j t l))
+      (cases_eq j (length xs))
 
 iff_same : (x y : Bool) → (x ≡ true → y ≡ true) → (y ≡ true → x ≡ true) → x ≡ y
 iff_same true y to from = sym (to refl)

@@ -38,7 +38,3 @@ report_text m k b = report_lines k (number_of (m.code b)) (m.mode b) (m.requests
 -- the place begins with the text, and its rest is left
 abbrev pub Written : List ℕ → (place place' : List ℕ) → Type 0
 Written text place place' = place' ≡ text ++ drop (length text) place
-
--- the text is put after the front of the place
-abbrev pub PutAfter : ℕ → List ℕ → (place place' : List ℕ) → Type 0
-PutAfter at text place place' = (front back : List ℕ) → length front ≡ at → place ≡ front ++ back → place' ≡ front ++ (text ++ drop (length text) back)

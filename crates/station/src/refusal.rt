@@ -1,8 +1,9 @@
 // What the station's calls refuse.
 ghost use Rattle.std.specs.Prelude.{◌≡◌};
+ghost use Rattle.station.specs.declared.refusal.LoadRefusal.TheVariants.{Sheet};
 ghost use Rattle.station.specs.Refusals.{refusal_number, load_number};
 
-use sheet::WiringFault;
+use sheet::{Fault, WiringFault};
 
 #[derive(Clone, Copy, PartialEq, Eq)]
 pub enum Refusal {
@@ -17,6 +18,7 @@ pub enum Refusal {
 }
 
 impl Refusal {
+    // A method and no `From`: a refused loading tells more than a number.
     pub fn number(self) -> u8
         ensures { result ≡ refusal_number self }
     {
@@ -36,6 +38,14 @@ pub enum LoadRefusal {
     Lent,
     // The sheet is refused, with its fault.
     Sheet(WiringFault),
+}
+
+impl From<WiringFault> for LoadRefusal {
+    ghost from_gives = { λ f r. r ≡ Sheet f };
+
+    fn from(fault: WiringFault) -> Self {
+        Self::Sheet(fault)
+    }
 }
 
 impl LoadRefusal {

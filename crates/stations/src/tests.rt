@@ -1,6 +1,6 @@
 // A small sheet on the three stations, to check by hand.
 use crate::{Bare, Buttons, Panels};
-use block::{Block, Kind, Settings, Setup, Times};
+use block::{Block, Kind, Setup};
 use station::{Refusal, Station};
 use std::test::Fail;
 
@@ -14,13 +14,8 @@ const CLEAR: [u8; 8] = [7, 0, 0, 0, 0, 0, 0, 0];
 const PRESSED: [u8; 8] = [7, 1, 0, 0, 0, 0, 0, 0];
 
 fn blank<B: Block>() -> Result<B, Fail> {
-    let Some(settings) = Settings::new(Kind::And, false, false) else {
-        return Err(Fail::new("settings"));
-    };
-    let Some(times) = Times::new(350, 2000) else {
-        return Err(Fail::new("times"));
-    };
-    Ok(B::make(Setup { settings, times }))
+    let setup = Setup::new(Kind::And, false, false, 350, 2000).ok_or("no setup")?;
+    Ok(B::make(setup))
 }
 
 #[test]
@@ -31,10 +26,7 @@ fn a_gate_that_is_on_reports_so(rt: HostRuntime) -> Result<(), Fail> {
     assert!(rt; station.load(SHEET, &mut table, &mut outputs).is_ok());
     assert!(rt; station.scan(&mut table, &CLEAR, 10, &mut outputs).is_ok());
     let mut place = [b'.'; 60];
-    let Ok(length) = station.report(&table, 0, &mut place) else {
-        return Err(Fail::new("report"));
-    };
-    assert_eq!(rt; length, 51);
+    assert!(rt; station.report(&table, 0, &mut place) == Ok(51));
     assert!(rt;
         place.starts_with(b"row=00\ncode=8000\nmode=on\nready=1\nerror=0\nrequest=0\n.........")
     );

@@ -1,34 +1,28 @@
 -- Where a text is cut first, and what is left uncut.
-use Rattle.std.proofs.Common.{◌≡◌, ℕ, zero, suc, ◌+◌, ◌<◌, true, false, cond, eqb, List, [], ◌∷◌, length, get_or, take, drop, refl, ap, add-one, arith, eq-eqb, ne_eqb}
-use Rattle.values.specs.Cut.{on_first, cut_at, CutOnce, Uncut}
+use Rattle.std.proofs.Common.{◌≡◌, ◌≢◌, ℕ, ◌+◌, ◌<◌, Bool, eqb, List, [], ◌∷◌, ◌++◌, length, take, drop, refl, ap, ◌∙◌, arith, eq-eqb, ne_eqb}
+use Rattle.std.specs.List.{position_or_len, HoldsAt, AllWithin}
+use Rattle.std.proofs.lemmas.List.Splits.{slice_split_none, slice_split_first, length-slice_split}
+use Rattle.std.proofs.lemmas.List.Sums.{position_or_len_is, split_at_first}
+use Rattle.values.specs.Cut.{cut_at, CutOnce, Uncut}
 
-module _ (sep : ℕ) where
-  -- no byte before place i is sep
-  abbrev pub NoneBefore : List ℕ → ℕ → Type 0
-  NoneBefore s i = (k : ℕ) → k < i → get_or s k 0 ≡ sep → ⊥
+module _ (sep : ℕ) (s : List ℕ) where
+  abbrev is_sep : ℕ → Bool
+  is_sep b = eqb b sep
 
-  first : (s : List ℕ) (i : ℕ) → i < length s → get_or s i 0 ≡ sep → NoneBefore s i → CutOnce sep s (take i s) (drop (suc i) s)
-  first [] i h e none = absurd (omega arith)
-  first (b ∷ s) zero h e none = record { first = rw (eq-eqb b sep e); whole = ap (λ z. z ∷ s) e }
-  first (b ∷ s) (suc i) h e none =
-      let off : eqb b sep ≡ false = ne_eqb b sep (none 0 (omega arith)) in
-      let rest = first s i (omega arith) e (λ k l. none (suc k) (omega arith)) in
-      let cut = rest.first in
-      record { first = rw (off, cut); whole = ap (λ z. b ∷ z) rest.whole }
+  pub cut_first : (i : ℕ) → i < length s → HoldsAt (λ b. b ≡ sep) s i → AllWithin (λ b. b ≢ sep) s 0 i → CutOnce sep s (take i s) (drop (i + 1) s)
+  cut_first i l on off =
+      let here : position_or_len is_sep s ≡ i = position_or_len_is is_sep s i 0 (omega arith) (λ k h. ne_eqb _ sep (off k 0 (omega arith) h)) (λ h. eq-eqb _ sep (on 0)) in
+      let first = slice_split_first is_sep s 0 (omega arith) in
+      let whole = split_at_first is_sep s 0 (omega arith) in
+      record { first = rw here at first; whole = (rw here at whole) ∙ ap (λ b. take i s ++ b ∷ drop (i + 1) s) (on 0) }
 
-  pub cut_first : (s : List ℕ) (i : ℕ) → i < length s → get_or s i 0 ≡ sep → NoneBefore s i → CutOnce sep s (take i s) (drop (i + 1) s)
-  cut_first s i h e none = rw add-one (first s i h e none)
+  pub cut_last : AllWithin (λ b. b ≢ sep) s 0 (length s) → Uncut sep s
+  cut_last off = slice_split_none is_sep s (λ k d h. ne_eqb _ sep (off k d (omega arith) h))
 
-  pub cut_last : (s : List ℕ) → NoneBefore s (length s) → Uncut sep s
-  cut_last [] none = refl
-  cut_last (b ∷ s) none =
-      let off : eqb b sep ≡ false = ne_eqb b sep (none 0 (omega arith)) in
-      let rest = cut_last s (λ k l. none (suc k) (omega arith)) in
-      rw (off, rest)
+cons_of : (ls : List (List ℕ)) → 0 < length ls → (m : List ℕ) × (ms : List (List ℕ)) × (ls ≡ m ∷ ms)
+cons_of [] l = absurd (omega arith)
+cons_of (m ∷ ms) l = (m, ms, refl)
 
-  -- a text has a first piece
-  pub cut_cons : (s : List ℕ) → (m : List ℕ) × (ms : List (List ℕ)) × (cut_at sep s ≡ m ∷ ms)
-  cut_cons [] = ([], [], refl)
-  cut_cons (b ∷ s) =
-      let h = cut_cons s in
-      elim (eqb b sep) as (λ t. (m : List ℕ) × (ms : List (List ℕ)) × (cond t ([] ∷ cut_at sep s) (on_first b (cut_at sep s)) ≡ m ∷ ms)) [ true ↦ ([], cut_at sep s, refl) | false ↦ (b ∷ h.0, h.1, ap (on_first b) h.2) ]
+-- a text has a first piece
+pub cut_cons : (sep : ℕ) (s : List ℕ) → (m : List ℕ) × (ms : List (List ℕ)) × (cut_at sep s ≡ m ∷ ms)
+cut_cons sep s = cons_of (cut_at sep s) (omega (arith, length-slice_split (λ b. eqb b sep) s))

@@ -1,22 +1,13 @@
 -- Cutting and joining undo each other.
-use Rattle.std.proofs.Common.{◌≡◌, ℕ, Bool, true, false, cond, not, ◌&&◌, eqb, List, [], ◌∷◌, ◌++◌, sym, refl, ap, ◌∙◌, eq-eqb, ne_eqb, eqb-true}
-use borrow.Author.Tests.{eqb-false, not-true}
-use Rattle.std.proofs.lemmas.Bool.{and_parts}
-use Rattle.values.specs.Cut.{on_first, cut_at, join_at}
-use Rattle.values.specs.Written.{Each}
-use Rattle.values.proofs.Cutting.{cut_cons}
-
-join_first : (sep b : ℕ) (l : List ℕ) (ls : List (List ℕ)) → join_at sep ((b ∷ l) ∷ ls) ≡ b ∷ join_at sep (l ∷ ls)
-join_first sep b l [] = refl
-join_first sep b l (m ∷ ls) = refl
-
-bytes : (sep b : ℕ) (p : List (List ℕ)) (m : List ℕ) (ms : List (List ℕ)) → p ≡ m ∷ ms → (t : Bool) → eqb b sep ≡ t → join_at sep (cond t ([] ∷ p) (on_first b p)) ≡ b ∷ join_at sep p
-bytes sep b p m ms e true h = rw e (ap (λ z. z ∷ join_at sep (m ∷ ms)) (sym (eqb-true b sep h)))
-bytes sep b p m ms e false h = rw e (join_first sep b m ms)
+use Rattle.std.proofs.Common.{◌≡◌, ℕ, Bool, true, false, not, ◌&&◌, eqb, List, [], ◌∷◌, ◌++◌, sym, refl, ap, ◌∙◌, eq-eqb, ne_eqb}
+use borrow.Author.Tests.{eqb-false}
+use Rattle.std.proofs.lemmas.Bool.{and_parts, not-true}
+use Rattle.std.proofs.lemmas.List.Splits.{join_with_byte-slice_split}
+use Rattle.values.specs.Cut.{cut_at, join_at}
+use Rattle.std.specs.List.{AllByRecursion}
 
 pub join_cut : (sep : ℕ) (s : List ℕ) → join_at sep (cut_at sep s) ≡ s
-join_cut sep [] = refl
-join_cut sep (b ∷ s) = let c = cut_cons sep s in bytes sep b (cut_at sep s) c.0 c.1 c.2 (eqb b sep) refl ∙ ap (λ z. b ∷ z) (join_cut sep s)
+join_cut sep s = join_with_byte-slice_split sep s
 
 -- a text that is one piece
 pub alone : (sep : ℕ) (s l : List ℕ) → cut_at sep s ≡ l ∷ [] → s ≡ l
@@ -24,7 +15,7 @@ alone sep s l e = sym (join_cut sep s) ∙ ap (join_at sep) e
 
 -- no byte is sep
 abbrev pub Clear : ℕ → List ℕ → Type 0
-Clear sep l = Each (λ b. b ≡ sep → ⊥) l
+Clear sep l = AllByRecursion (λ b. b ≡ sep → ⊥) l
 
 pub clear_append : (sep : ℕ) (l m : List ℕ) → Clear sep l → Clear sep m → Clear sep (l ++ m)
 clear_append sep [] m p q = q
@@ -43,7 +34,7 @@ pub cut_piece : (sep : ℕ) (l s : List ℕ) → Clear sep l → cut_at sep (l +
 cut_piece sep [] s c = let on : eqb sep sep ≡ true = eq-eqb sep sep refl in rw on
 cut_piece sep (b ∷ l) s c = let off : eqb b sep ≡ false = ne_eqb b sep c.0 in let rest = cut_piece sep l s c.1 in rw (off, rest)
 
-pub cut_join : (sep : ℕ) (l : List ℕ) (ls : List (List ℕ)) → Each (Clear sep) (l ∷ ls) → cut_at sep (join_at sep (l ∷ ls)) ≡ l ∷ ls
+pub cut_join : (sep : ℕ) (l : List ℕ) (ls : List (List ℕ)) → AllByRecursion (Clear sep) (l ∷ ls) → cut_at sep (join_at sep (l ∷ ls)) ≡ l ∷ ls
 cut_join sep [] [] c = refl
 cut_join sep (b ∷ l) [] c = let off : eqb b sep ≡ false = ne_eqb b sep c.0.0 in let rest = cut_join sep l [] (c.0.1, tt) in rw (off, rest)
 cut_join sep l (m ∷ ls) c = cut_piece sep l (join_at sep (m ∷ ls)) c.0 ∙ ap (λ z. l ∷ z) (cut_join sep m ls c.1)

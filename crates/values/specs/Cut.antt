@@ -1,20 +1,14 @@
 -- A text cut at a separator, and put together again.
-use Rattle.std.specs.Prelude.{◌≡◌, ℕ, cond, List, [], ◌∷◌, ◌++◌, ◌==◌}
-
-abbrev pub on_first : ℕ → List (List ℕ) → List (List ℕ)
-on_first b [] = []
-on_first b (l ∷ ls) = (b ∷ l) ∷ ls
+use Rattle.std.specs.Prelude.{◌≡◌, ℕ, List, [], ◌∷◌, ◌++◌, ◌==◌}
+use Rattle.std.specs.List.{slice_split, join_with_byte}
 
 -- the pieces between the bytes that are sep; the last has none after it
 abbrev pub cut_at : ℕ → List ℕ → List (List ℕ)
-cut_at sep [] = [] ∷ []
-cut_at sep (b ∷ bs) = cond (b == sep) ([] ∷ cut_at sep bs) (on_first b (cut_at sep bs))
+cut_at sep s = slice_split (λ b. b == sep) s
 
 -- the pieces with sep between them
 abbrev pub join_at : ℕ → List (List ℕ) → List ℕ
-join_at sep [] = []
-join_at sep (l ∷ []) = l
-join_at sep (l ∷ m ∷ ls) = l ++ sep ∷ join_at sep (m ∷ ls)
+join_at sep ls = join_with_byte sep ls
 
 -- no byte of s is sep
 abbrev pub Uncut : ℕ → List ℕ → Type 0

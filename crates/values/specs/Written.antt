@@ -1,5 +1,6 @@
 -- How the values of a sheet are written, and which values can be.
 use Rattle.std.specs.Prelude.{◌≡◌, ℕ, ◌+◌, ◌/◌, ◌%◌, ◌<◌, Bool, true, false, List, [], ◌∷◌, map, length, Some, None, codes, Option}
+use Rattle.std.specs.List.{AllByRecursion}
 use Rattle.block.specs.declared.types.Kind.{Kind}
 use Rattle.block.specs.declared.types.Kind.TheVariants.{And, Or, Estop}
 use Rattle.values.specs.declared.source.Source.{Source}
@@ -44,13 +45,9 @@ source_text One = codes "1"
 source_text (Terminal n) = terminal_text n
 source_text (Row n) = row_text n
 
-abbrev pub Each : {X : Type 0} → (X → Type 0) → List X → Type 0
-Each P [] = Unit {0}
-Each P (x ∷ xs) = P x × Each P xs
-
 -- the pins of a row: four sources
 abbrev pub FourShort : List Source → Type 0
-FourShort ps = (length ps ≡ 4) × Each Short ps
+FourShort ps = (length ps ≡ 4) × AllByRecursion Short ps
 
 -- with commas between them
 abbrev pub pins_text : List Source → List ℕ

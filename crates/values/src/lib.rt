@@ -1,4 +1,5 @@
 // The values of a sheet's lines: how each is written, and the readers of single values.
+// Functions and no `TryFrom`: most values are numbers and options, at which no impl of this crate can stand, and one form serves all.
 #![tactic(auto)]
 
 pub mod cut;

@@ -3,6 +3,7 @@ ghost use Rattle.std.specs.Prelude.{◌≤◌, [], ◌∷◌, decimal, Decides};
 ghost use Rattle.values.specs.Parsed.{Parsed};
 ghost use Rattle.values.specs.Written.{digit, two, OneDigit, TwoDigits, FiveDigits};
 
+// Not `char::to_digit`, whose u32 would have to be cast to the u8 that a pair of digits gives.
 fn parse_digit(b: u8) -> Option<u8>
     ensures { Parsed OneDigit digit b result }
 {
@@ -16,9 +17,7 @@ fn parse_digit(b: u8) -> Option<u8>
 pub(crate) fn parse_pair(tens: u8, ones: u8) -> Option<u8>
     ensures { Parsed TwoDigits two (tens ∷ ones ∷ []) result }
 {
-    let a = parse_digit(tens)?;
-    let b = parse_digit(ones)?;
-    Some(a * 10 + b)
+    Some(parse_digit(tens)? * 10 + parse_digit(ones)?)
 }
 
 pub fn parse_two(s: &[u8]) -> Option<u8>
@@ -30,27 +29,17 @@ pub fn parse_two(s: &[u8]) -> Option<u8>
     parse_pair(*a, *b)
 }
 
-// Whether as many bytes can be a time.
-fn is_time_long(len: usize) -> bool
-    ensures { Decides result ((1 ≤ len) × (len ≤ 5)) }
-{
-    1 <= len && len <= 5
-}
-
 // One to five digits, with no zero before another digit.
 pub fn parse_time(s: &[u8]) -> Option<u32>
     ensures { Parsed FiveDigits decimal s.now result }
 {
-    if !is_time_long(s.len()) {
+    if !(1..=5).contains(&s.len()) || matches!(s, [b'0', _, ..]) {
         return None;
     }
-    if s.len() > 1 && s[0] == b'0' {
-        return None;
-    }
-    let mut n: u32 = 0;
+    // A loop, whose invariant bounds the sum; a closure of `try_fold` would have to test for overflow.
+    let mut n = 0;
     for b in s {
-        let d = parse_digit(*b)?;
-        n = 10 * n + u32::from(d);
+        n = 10 * n + u32::from(parse_digit(*b)?);
     }
     Some(n)
 }

@@ -6,14 +6,15 @@ use crate::cut::cut_once;
 use crate::numbers::parse_pair;
 use crate::source::Source;
 
+// The letter stands in each reader's own pattern; the two digits after it are what the readers share.
 pub fn parse_source(s: &[u8]) -> Option<Source>
     ensures { Parsed Short source_text s.now result }
 {
     match s {
         [b'0'] => Some(Source::Zero),
         [b'1'] => Some(Source::One),
-        [b'i', a, b] => Some(Source::Terminal(parse_pair(*a, *b)?)),
-        [b'r', a, b] => Some(Source::Row(parse_pair(*a, *b)?)),
+        [b'i', a, b] => parse_pair(*a, *b).map(Source::Terminal),
+        [b'r', a, b] => parse_pair(*a, *b).map(Source::Row),
         _ => None,
     }
 }
@@ -24,11 +25,12 @@ pub fn parse_pins(s: &[u8]) -> Option<[Source; 4]>
     let (a, rest) = cut_once(s, b',')?;
     let (b, rest) = cut_once(rest, b',')?;
     let (c, d) = cut_once(rest, b',')?;
-    let first = parse_source(a)?;
-    let second = parse_source(b)?;
-    let third = parse_source(c)?;
-    let fourth = parse_source(d)?;
-    Some([first, second, third, fourth])
+    Some([
+        parse_source(a)?,
+        parse_source(b)?,
+        parse_source(c)?,
+        parse_source(d)?,
+    ])
 }
 
 // `rNN`.
@@ -36,7 +38,7 @@ pub fn parse_row(s: &[u8]) -> Option<u8>
     ensures { Parsed TwoDigits row_text s.now result }
 {
     match s {
-        [b'r', a, b] => Some(parse_pair(*a, *b)?),
+        [b'r', a, b] => parse_pair(*a, *b),
         _ => None,
     }
 }
@@ -47,7 +49,7 @@ pub fn parse_reset(s: &[u8]) -> Option<Option<u8>>
 {
     match s {
         [b'-'] => Some(None),
-        [b'i', a, b] => Some(Some(parse_pair(*a, *b)?)),
+        [b'i', a, b] => parse_pair(*a, *b).map(Some),
         _ => None,
     }
 }

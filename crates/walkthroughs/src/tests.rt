@@ -2,17 +2,10 @@
 use crate::{Buttons, Panels};
 use block::{Block, Code, Input, Kind, Mode, Settings, Setup, Times, Word};
 use button::Button;
-use catalogue::{Catalogue, Stop, StopState};
+use catalogue::{Catalogue, Stop, StopSettings, StopState};
 use group::Group;
 use reset::{ButtonFields, ButtonState};
 use std::test::Fail;
-
-// What a row with these settings is made from, under a press of 350 to 2,000 milliseconds.
-fn setup(kind: Kind, start: bool, auto: bool) -> Option<Setup> {
-    let settings = Settings::new(kind, start, auto)?;
-    let times = Times::new(350, 2000)?;
-    Some(Setup { settings, times })
-}
 
 fn word(pin0: bool, pin1: bool, pin2: bool, pin3: bool) -> Word {
     Word {
@@ -56,18 +49,15 @@ fn pressed<B: Block>(block: B, held: u16, rest: u16) -> B {
         .step(clear(false, true, rest))
 }
 
+// What an emergency stop is made from, under a press of 350 to 2,000 milliseconds.
 fn estop(start: bool, auto: bool) -> Result<Setup, Fail> {
-    match setup(Kind::Estop, start, auto) {
-        Some(setup) => Ok(setup),
-        None => Err(Fail::new("an emergency stop has these settings")),
-    }
+    let setup = Setup::new(Kind::Estop, start, auto, 350, 2000);
+    Ok(setup.ok_or("an emergency stop has these settings")?)
 }
 
 fn gate(kind: Kind) -> Result<Setup, Fail> {
-    match setup(kind, false, false) {
-        Some(setup) => Ok(setup),
-        None => Err(Fail::new("a gate has these settings")),
-    }
+    let setup = Setup::new(kind, false, false, 350, 2000);
+    Ok(setup.ok_or("a gate has these settings")?)
 }
 
 #[test]
@@ -150,8 +140,7 @@ fn a_group_turns_the_word_for_its_second(rt: HostRuntime) -> Result<(), Fail> {
 fn fields_outside_the_limits_are_read_as_one_button(rt: HostRuntime) {
     let damaged = Button {
         inner: Stop {
-            start: false,
-            auto: false,
+            settings: StopSettings::new(false, false),
             state: StopState::FirstReady,
         },
         button: ButtonFields {

@@ -1,6 +1,7 @@
 // The two settings of an emergency stop.
 ghost use Rattle.std.specs.Prelude.{◌≡◌};
 
+// Not the row's `Settings`, which keep their limits: what lies in lent memory promises nothing.
 // start: it comes on by itself after power-up. auto: it comes on by itself after a stop.
 #[derive(Clone, Copy, PartialEq, Eq)]
 pub struct StopSettings {

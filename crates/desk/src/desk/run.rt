@@ -1,8 +1,7 @@
 // A new desk, and whole lists of requests.
 ghost use Rattle.std.specs.Prelude.{◌≡◌, ◌+◌, ◌<◌, ◌≤◌, None, vec_len, vec_capacity};
 ghost use Rattle.block.specs.Of.{meaning};
-ghost use Rattle.desk.specs.Pasts.{Past, FitsPast};
-ghost use Rattle.desk.specs.Runs.{KeptTurn, RunOutcome, Turn, scene};
+ghost use Rattle.desk.specs.Runs.{EveryKeptTurn, RunOutcome, Turn, scene};
 ghost use Rattle.desk.specs.Sizes.{first_blocks, first_bytes};
 
 use super::Desk;
@@ -11,6 +10,12 @@ use crate::request::Request;
 use block::Block;
 use station::Station;
 use std::alloc::AllocError;
+
+// How many blocks a station works on.
+const FIRST_BLOCKS: usize = 32;
+
+// How many output bytes a station works on.
+const FIRST_BYTES: usize = 2;
 
 impl Desk {
     // A station that is not loaded; calls are lent as many blocks and bytes as it works on.
@@ -21,8 +26,8 @@ impl Desk {
     {
         Desk {
             station: Station::new(),
-            blocks: 32,
-            bytes: 2,
+            blocks: FIRST_BLOCKS,
+            bytes: FIRST_BYTES,
         }
     }
 
@@ -53,13 +58,12 @@ impl Desk {
     )
         requires { vec_len answers.old < vec_capacity answers.old }
         ensures turn { Turn (meaning B.Block) request.now (scene self.old table.old outputs.old answers.old.items) (scene self.new table.new outputs.new answers.new.items) }
-        ensures past { (p : Past) → FitsPast (meaning B.Block) p self.old table.old outputs.old → (p' : Past) × KeptTurn (meaning B.Block) request.now (p, scene self.old table.old outputs.old answers.old.items) (p', scene self.new table.new outputs.new answers.new.items) }
+        ensures past { EveryKeptTurn (meaning B.Block) request.now (scene self.old table.old outputs.old answers.old.items) (scene self.new table.new outputs.new answers.new.items) }
         ensures len { vec_len answers.new ≤ vec_len answers.old + 1 }
         ensures capacity { vec_capacity answers.new ≡ vec_capacity answers.old }
     {
-        match self.serve(request, table, outputs) {
-            Some(answer) => answers.push_reserved(answer),
-            None => {}
+        if let Some(answer) = self.serve(request, table, outputs) {
+            answers.push_reserved(answer);
         }
     }
 }

@@ -10,11 +10,42 @@ use crate::fields::{ButtonFields, ButtonState, ResetInput};
 use block::times::ops::{LONGEST_PRESS, SHORTEST_PRESS, are_times_allowed};
 use block::{Code, Times};
 
+// The one lawful button that fields outside the limits are read as.
+const FIXED_BUTTON: ButtonFields = ButtonFields {
+    state: ButtonState::Idle,
+    time: 0,
+    min: SHORTEST_PRESS,
+    max: LONGEST_PRESS,
+};
+
 // Whether plain fields keep the limits of the record.
 pub fn are_fields_allowed(fields: ButtonFields) -> bool
     ensures { result ≡ button_allowed fields.min fields.max fields.time }
 {
     are_times_allowed(fields.min, fields.max) && fields.time <= fields.max
+}
+
+// Fields that break a limit are read as those of one fixed button.
+impl From<ButtonFields> for ResetButton {
+    ghost from_gives = { λ f b. plain b ≡ read_back f };
+
+    fn from(fields: ButtonFields) -> ResetButton {
+        if are_fields_allowed(fields) {
+            ResetButton { fields }
+        } else {
+            ResetButton {
+                fields: FIXED_BUTTON,
+            }
+        }
+    }
+}
+
+impl From<ResetButton> for ButtonFields {
+    ghost from_gives = { λ b f. f ≡ plain b };
+
+    fn from(button: ResetButton) -> ButtonFields {
+        button.fields
+    }
 }
 
 impl ResetButton {
@@ -23,73 +54,43 @@ impl ResetButton {
         ensures { plain result ≡ made_button times }
     {
         ResetButton {
-            state: ButtonState::Idle,
-            time: 0,
-            min: times.min(),
-            max: times.max(),
-        }
-    }
-
-    // The button of plain fields; fields that break a limit are read as those of one fixed button.
-    pub fn from_fields(fields: ButtonFields) -> ResetButton
-        ensures { plain result ≡ read_back fields }
-    {
-        if are_fields_allowed(fields) {
-            ResetButton {
-                state: fields.state,
-                time: fields.time,
-                min: fields.min,
-                max: fields.max,
-            }
-        } else {
-            ResetButton {
+            fields: ButtonFields {
                 state: ButtonState::Idle,
                 time: 0,
-                min: SHORTEST_PRESS,
-                max: LONGEST_PRESS,
-            }
-        }
-    }
-
-    pub fn fields(self) -> ButtonFields
-        ensures { result ≡ plain self }
-    {
-        ButtonFields {
-            state: self.state,
-            time: self.time,
-            min: self.min,
-            max: self.max,
+                min: times.min(),
+                max: times.max(),
+            },
         }
     }
 
     // The code. The parameter error is never due, since every value keeps the limits of its times, and never shows.
     pub fn code(&self) -> Code
-        ensures code { result ≡ button_code self.now.state }
-        ensures never_due { parameter_error_due self.now.min self.now.max ≡ false }
+        ensures code { result ≡ button_code (plain self.now).state }
+        ensures never_due { parameter_error_due (plain self.now).min (plain self.now).max ≡ false }
         ensures never_shown { number_of result ≡ parameter_error → ⊥ }
     {
-        self.state.code()
+        self.fields.state.code()
     }
 
-    // One step: answers the pulse and the code.
+    // One step: answers the pulse and the code, a pair, which the layer above takes apart.
     pub fn step(&mut self, input: ResetInput) -> (bool, Code)
         ensures after { plain self.new ≡ button_next (plain self.old) input }
-        ensures answers { result ≡ (is_pulse self.new.state, button_code self.new.state) }
+        ensures answers { result ≡ (is_pulse (plain self.new).state, button_code (plain self.new).state) }
     {
         if input.requested {
             self.follow(input);
         } else {
             self.enter(ButtonState::Idle);
         }
-        (self.state == ButtonState::Pulse, self.code())
+        (self.fields.state == ButtonState::Pulse, self.code())
     }
 
     // A step while a reset is requested.
     fn follow(&mut self, input: ResetInput)
-        ensures { plain self.new ≡ requested_next self.old.state (plain self.old) input }
+        ensures { plain self.new ≡ requested_next (plain self.old).state (plain self.old) input }
     {
         let rise = input.now && !input.before;
-        match self.state {
+        match self.fields.state {
             ButtonState::Idle if input.now => self.enter(ButtonState::StuckOn),
             ButtonState::Idle => self.enter(ButtonState::WaitForRise),
             ButtonState::WaitForRise if input.now => self.enter(ButtonState::WaitForFall),
@@ -108,12 +109,12 @@ impl ResetButton {
     fn hold(&mut self, input: ResetInput)
         ensures { plain self.new ≡ pressed_next (plain self.old) input }
     {
-        let time = u32::from(self.time) + u32::from(input.elapsed);
-        if time > u32::from(self.max) {
+        let time = u32::from(self.fields.time) + u32::from(input.elapsed);
+        if time > u32::from(self.fields.max) {
             self.enter(ButtonState::TooLong);
         } else if input.now {
-            self.time = time as u16;
-        } else if time < u32::from(self.min) {
+            self.fields.time = time as u16;
+        } else if time < u32::from(self.fields.min) {
             self.enter(ButtonState::TooShort);
         } else {
             self.enter(ButtonState::Pulse);
@@ -124,7 +125,7 @@ impl ResetButton {
     fn enter(&mut self, state: ButtonState)
         ensures { plain self.new ≡ entering (plain self.old) state }
     {
-        self.state = state;
-        self.time = 0;
+        self.fields.state = state;
+        self.fields.time = 0;
     }
 }

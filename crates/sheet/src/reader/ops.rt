@@ -1,53 +1,47 @@
 // Handing out lines and the values in them.
-ghost use Rattle.std.specs.Prelude.{◌≡◌, ◌+◌, ◌≤◌, length, Decides, MatchResult};
-ghost use Rattle.sheet.specs.Limits.{most_bytes};
+ghost use Rattle.std.specs.Prelude.{◌≡◌, ◌+◌, Decides, MatchResult, IfOk};
 ghost use Rattle.sheet.specs.Lines.{start};
 ghost use Rattle.sheet.specs.Reading.{at, Ended, HandsLine, NoLine, HandsValue, NoValue};
+ghost use Rattle.sheet.specs.Steps.{LengthChecked};
 
 use super::{Part, Reader};
 use crate::fault::TextFault;
+use crate::limits::is_too_long;
 use values::cut_once;
 
 impl<'a> Reader<'a> {
-    // A sheet that is not too long, before its first line.
-    pub(crate) fn new(sheet: &'a [u8]) -> Self
-        requires { length sheet.now ≤ most_bytes }
-        ensures { at result ≡ start sheet.now }
+    // The sheet before its first line, unless it is too long.
+    pub(crate) fn new(sheet: &'a [u8]) -> Result<Self, TextFault>
+        ensures length { LengthChecked sheet.now result }
+        ensures start { IfOk result (λ r. at r ≡ start sheet.now) }
     {
-        Reader {
+        if is_too_long(sheet) {
+            return Err(TextFault::TooLong);
+        }
+        Ok(Reader {
             rest: sheet,
             line: 0,
-        }
+        })
     }
 
     // The due line, without its line feed.
     pub fn next_line(&mut self) -> Result<Part<'a>, TextFault>
         ensures { MatchResult result (λ p. HandsLine p.bytes.now p.line (at self.old) (at self.new)) (λ f. NoLine (at self.old) f) }
     {
-        let rest = self.rest;
         let line = self.line + 1;
-        match cut_once(rest, b'\n') {
-            Some((bytes, after)) => {
-                self.rest = after;
-                self.line = line;
-                Ok(Part { line, bytes })
-            }
-            None => Err(TextFault::Malformed(line)),
-        }
+        let (bytes, after) = cut_once(self.rest, b'\n').ok_or(TextFault::Malformed(line))?;
+        self.rest = after;
+        self.line = line;
+        Ok(Part { line, bytes })
     }
 
     // What follows `key` in the due line.
     pub fn value(&mut self, key: &[u8]) -> Result<Part<'a>, TextFault>
         ensures { MatchResult result (λ p. HandsValue key.now p.bytes.now p.line (at self.old) (at self.new)) (λ f. NoValue key.now (at self.old) f) }
     {
-        let part = self.next_line()?;
-        match part.bytes.strip_prefix(key) {
-            Some(bytes) => Ok(Part {
-                line: part.line,
-                bytes,
-            }),
-            None => Err(TextFault::Malformed(part.line)),
-        }
+        let Part { line, bytes } = self.next_line()?;
+        let bytes = bytes.strip_prefix(key).ok_or(TextFault::Malformed(line))?;
+        Ok(Part { line, bytes })
     }
 
     // The number of the line that was handed out last; 0 before the first.

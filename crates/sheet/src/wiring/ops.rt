@@ -4,26 +4,21 @@ ghost use Rattle.sheet.specs.Wired.{wiring_allowed};
 ghost use Rattle.sheet.specs.Wires.{MadeOf, listed, routed, RowsWired, OutsWired};
 
 use super::Wiring;
+use crate::head::Head;
 use crate::row::Row;
 use block::Times;
 
 impl Wiring {
     // The tables of a sheet that keeps the rules.
-    pub(crate) fn new(
-        times: Times,
-        count: u8,
-        rows: [Row; 32],
-        outputs: u8,
-        outs: [u8; 16],
-    ) -> Wiring
-        requires { wiring_allowed count rows outputs outs ≡ true }
-        ensures { MadeOf times count rows outputs outs result }
+    pub(crate) fn new(head: Head, rows: [Row; 32], outs: [u8; 16]) -> Wiring
+        requires { wiring_allowed head.count rows head.outputs outs ≡ true }
+        ensures { MadeOf head rows outs result }
     {
         Wiring {
-            times,
-            count,
+            times: head.times,
+            count: head.count,
             rows,
-            outputs,
+            outputs: head.outputs,
             outs,
         }
     }
@@ -54,7 +49,7 @@ impl Wiring {
         ensures rows { result.now ≡ listed self.now }
         ensures wired { RowsWired self.now.count result.now }
     {
-        &self.rows[0..self.count as usize]
+        &self.rows[..self.count as usize]
     }
 
     // The row of each output, output 00 first.
@@ -62,6 +57,6 @@ impl Wiring {
         ensures outs { result.now ≡ routed self.now }
         ensures wired { OutsWired self.now.count self.now.outputs result.now }
     {
-        &self.outs[0..self.outputs as usize]
+        &self.outs[..self.outputs as usize]
     }
 }

@@ -8,7 +8,7 @@ ghost use Rattle.station.specs.Promises.{GoesOn};
 ghost use Rattle.station.specs.Stations.{CallLeaves, HaltLeaves};
 
 use super::Station;
-use crate::outputs::{show_outputs, switch_off};
+use crate::outputs::Outputs;
 use crate::refusal::{LoadRefusal, Refusal};
 use crate::rows::{fill_rows, idle_rows, scan_rows};
 use block::Block;
@@ -18,7 +18,7 @@ use sheet::load::load_sheet;
 fn is_elapsed_allowed(elapsed: u32) -> bool
     ensures { result ≡ elapsed_allowed elapsed }
 {
-    1 <= elapsed && elapsed <= 1000
+    (1..=1000).contains(&elapsed)
 }
 
 // Whether so many blocks and output bytes are lent as a station works on.
@@ -28,6 +28,7 @@ fn are_sizes_allowed(blocks: usize, bytes: usize) -> bool
     blocks == 32 && bytes == 2
 }
 
+// Table and output bytes stay two arguments: so the calls are asked for.
 impl Station {
     // Loads a sheet: makes the blocks of its rows and switches the outputs off, or refuses and leaves all as found.
     pub fn load<B: Block>(
@@ -41,21 +42,18 @@ impl Station {
         if !are_sizes_allowed(table.len(), outputs.len()) {
             return Err(LoadRefusal::Lent);
         }
-        match load_sheet(sheet) {
-            Err(fault) => Err(LoadRefusal::Sheet(fault)),
-            Ok(wiring) => {
-                fill_rows(&wiring, table);
-                switch_off(outputs);
-                *self = Station {
-                    wiring: Some(wiring),
-                    last: [255; 8],
-                };
-                Ok(())
-            }
-        }
+        let wiring = load_sheet(sheet)?;
+        fill_rows(&wiring, table);
+        outputs.fill(0);
+        *self = Station {
+            wiring: Some(wiring),
+            last: [255; 8],
+        };
+        Ok(())
     }
 
     // One scan: steps every row, shows the outputs and remembers the image, or refuses; a bad elapsed time halts.
+    #[tactic(auto, using(crate::proofs::Promises::goes_on))]
     pub fn scan<B: Block>(
         &mut self,
         table: &mut [B],
@@ -67,7 +65,8 @@ impl Station {
         ensures leaves { CallLeaves (meaning B.Block) (effect (Scan (length table.old) image.now elapsed (length outputs.old))) self.old self.new table.old table.new outputs.old outputs.new }
         ensures history { GoesOn (meaning B.Block) (Scan (length table.old) image.now elapsed (length outputs.old)) self.old self.new table.old table.new outputs.old outputs.new }
     {
-        if !are_sizes_allowed(table.len(), outputs.len()) || image.len() != 8 {
+        let image = image.as_array::<8>().ok_or(Refusal::Sizes)?;
+        if !are_sizes_allowed(table.len(), outputs.len()) {
             return Err(Refusal::Sizes);
         }
         if !is_elapsed_allowed(elapsed) {
@@ -76,12 +75,17 @@ impl Station {
         }
         let last = self.last;
         scan_rows(self.rows(), image, &last, elapsed as u16, table);
-        show_outputs(self.outs(), table, outputs);
-        self.last.copy_from_slice(image);
+        Outputs {
+            outs: self.outs(),
+            table,
+        }
+        .show(outputs);
+        self.last = *image;
         Ok(())
     }
 
     // A halt: idles every row and switches the outputs off.
+    #[tactic(auto, using(crate::proofs::Promises::goes_on))]
     pub fn halt<B: Block>(&mut self, table: &mut [B], outputs: &mut [u8]) -> Result<(), Refusal>
         ensures answer { result ≡ halt_answer (effect (Halt (length table.old) (length outputs.old))) }
         ensures leaves { CallLeaves (meaning B.Block) (effect (Halt (length table.old) (length outputs.old))) self.old self.new table.old table.new outputs.old outputs.new }
@@ -101,7 +105,7 @@ impl Station {
         ensures { HaltLeaves (meaning B.Block) self.old self.new table.old table.new outputs.old outputs.new }
     {
         idle_rows(self.rows(), table);
-        switch_off(outputs);
+        outputs.fill(0);
         self.last = [255; 8];
     }
 }

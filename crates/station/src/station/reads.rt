@@ -12,6 +12,7 @@ use block::Block;
 
 impl Station {
     // The report of a row: six lines at the beginning of the place; answers their length.
+    #[tactic(auto, using(crate::proofs::Reading::reads))]
     pub fn report<B: Block>(
         &self,
         table: &[B],
@@ -24,17 +25,16 @@ impl Station {
         if table.len() != 32 {
             return Err(Refusal::Sizes);
         }
-        let rows = self.rows();
-        if row as usize >= rows.len() {
-            return Err(Refusal::Number);
-        }
+        let blocks = &table[..self.rows().len()];
+        let block = blocks.get(row as usize).ok_or(Refusal::Number)?;
         if place.len() < 54 {
             return Err(Refusal::Place);
         }
-        Ok(write_report(row as u8, &table[row as usize], place))
+        Ok(write_report(row as u8, block, place))
     }
 
     // The needs list of an output: bit t is on if terminal t must be on for the output to be on.
+    #[tactic(auto, using(crate::proofs::Reading::reads))]
     pub fn needs<B: Block>(&self, table: &[B], output: u32) -> Result<u64, Refusal>
         ensures answer { NeedsOutcome (meaning B.Block) result self.now table.now output }
         ensures history { Reads (meaning B.Block) self.now table.now }
@@ -42,12 +42,8 @@ impl Station {
         if table.len() != 32 {
             return Err(Refusal::Sizes);
         }
-        let outs = self.outs();
-        let output = output as usize;
-        if output >= outs.len() {
-            return Err(Refusal::Number);
-        }
+        let row = self.outs().get(output as usize).ok_or(Refusal::Number)?;
         let masks = row_masks(self.rows(), table);
-        Ok(masks[outs[output] as usize])
+        Ok(masks.as_slice()[*row as usize])
     }
 }

@@ -1,4 +1,4 @@
-use borrow.Author.Rules.{rules}
+use Rattle.std.proofs.Common.{rules}
 use Rattle.block.specs.Of.{meaning}
 use Rattle.button.proofs.Press.{button_comes_on}
 use Rattle.button.proofs.ButtonBlock.comes_on.Goals as goal

@@ -1,13 +1,13 @@
-use Rattle.std.proofs.Common.{◌≡◌, ◌++◌, get_or, vec_items, codes, rules}
-use Rattle.desk.specs.Answers.{hex_text}
-use Rattle.desk.proofs.Hex.{four_parts}
+use Rattle.std.proofs.Common.{◌≡◌, Option, Some, None, IfSome, get_or, vec_items, refl, ap, ◌∙◌, arith}
+use Rattle.desk.proofs.Hex.{hex_hole}
 use Rattle.desk.proofs.text.with_outputs.Goals as goal
 
+for_some : {X : Type 0} (o : Option X) {P : X → Type 0} → ((x : X) → o ≡ Some x → P x) → IfSome o P
+for_some None each = tt
+for_some (Some x) each = each x refl
+
 pub returns : goal.returns
-returns c =
-    let head : vec_items c.in_ok-line.line ≡ c.args.head.now = search rules in
-    let key : vec_items c.extend_from_slice.new.self ≡ vec_items c.in_ok-line.line ++ codes " outputs=" = search rules in
-    let end : vec_items c.extend_from_slice-2.new.self ≡ vec_items c.push_hex-2.new.line ++ codes "\n" = search rules in
-    four_parts c.args.head.now (codes " outputs=") (hex_text 2 (get_or c.args.outputs 0 0)) (hex_text 2 (get_or c.args.outputs 1 0)) (codes "\n")
-    (vec_items c.in_ok-line.line) (vec_items c.extend_from_slice.new.self) (vec_items c.push_hex.new.line) (vec_items c.push_hex-2.new.line) (vec_items c.extend_from_slice-2.new.self)
-    head key (search rules) (search rules) end
+returns g c =
+    let first = hex_hole 1 (get_or c.args.outputs 0 0) c.in_radix.result c.laid_out.result c.laid_out.ensures c.in_radix.ensures (omega arith) (omega arith) in
+    let second = hex_hole 1 (get_or c.args.outputs 1 0) c.in_radix-2.result c.laid_out-2.result c.laid_out-2.ensures c.in_radix-2.ensures (omega arith) (omega arith) in
+    for_some (g.D.Display.output c.args.head.now) (λ t head. ap vec_items c.into_bytes.ensures.value ∙ (rw (head, first, second) at c.in_ok-format.ensures.ok))

@@ -1,4 +1,4 @@
-use borrow.Author.Rules.{rules}
+use Rattle.std.proofs.Common.{rules}
 use Rattle.block.specs.Of.{meaning}
 use Rattle.block.proofs.Rise.{comes_on_at_a_rise}
 use Rattle.group.specs.Group.{grouped}

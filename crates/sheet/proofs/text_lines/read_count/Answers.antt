@@ -1,9 +1,7 @@
-use Rattle.sheet.specs.Reading.{at}
+use Rattle.std.proofs.Common.{rules}
 use Rattle.sheet.specs.Sheet.{count_due}
-use Rattle.sheet.proofs.Due.{misread}
+use Rattle.sheet.proofs.Due.{read_step}
 use Rattle.sheet.proofs.text_lines.read_count.Goals as goal
 
-pub returns-in_default : goal.returns-in_default
-returns-in_default c =
-    misread (count_due c.args.key.now c.args.most) (at c.args.reader.now) c.in_ok-part.part.bytes.now c.in_ok-part.part.line (at c.value.new.self)
-    c.in_ok-part.ensures c.in_default.ensures
+pub returns : goal.returns
+returns c = read_step (count_due c.args.key.now c.args.most) c.args.reader.now c.read.new.reader c.read.ensures (λ bytes o k. search rules) (λ v k. search rules) (λ v k. search rules)

@@ -1,5 +1,6 @@
+use Rattle.std.proofs.Common.{rules}
+use Rattle.std.specs.List.{AllByRecursion}
 use Rattle.std.proofs.lemmas.Result.{err_from_is_err_and}
-use Rattle.values.specs.Written.{Each}
 use Rattle.sheet.specs.Due.{not_earlier}
 use Rattle.sheet.specs.Reading.{at}
 use Rattle.sheet.specs.Sheet.{pins_text_due, Earlier}
@@ -9,4 +10,4 @@ use Rattle.sheet.proofs.wiring_lines.read_pins.Goals as goal
 pub returns-in_err-pins : goal.returns-in_err-pins
 returns-in_err-pins c =
     let p = err_from_is_err_and c.from_residual.result c.from_residual.ensures.1 in
-    rw (p.1, p.2) (asking_bad pins_text_due not_earlier (Each (Earlier c.args.row)) (at c.args.reader.now) c.in_err-pins.ensures)
+    rw (p.1, p.2) (asking_bad pins_text_due not_earlier (AllByRecursion (Earlier c.args.row)) (at c.args.reader.now) (search rules))

@@ -3,7 +3,7 @@ use Rattle.block.specs.Of.{meaning}
 use Rattle.station.specs.Scans.{at, IdlesRow, KeepsBlock}
 use Rattle.station.proofs.rows.idle_rows.Given as goal
 
-abbrev pub invariant-loop-k : goal.invariant-loop-k
-invariant-loop-k g l =
+abbrev pub invariant-loop-block : goal.invariant-loop-block
+invariant-loop-block g l =
     let m = meaning g.B.Block in
-    ((j : ℕ) → j < l.k → IdlesRow m (at m l.initial.table) (at m l.table) j) × ((j : ℕ) → l.k ≤ j → KeepsBlock (at m l.initial.table) (at m l.table) j)
+    ((j : ℕ) → j < l.block-index → IdlesRow m (at m l.initial.listed) (at m l.listed) j) × ((j : ℕ) → l.block-index ≤ j → KeepsBlock (at m l.initial.listed) (at m l.listed) j)

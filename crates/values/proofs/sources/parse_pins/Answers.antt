@@ -10,14 +10,14 @@ returns-in_err-b c = rw c.from_residual-in_err-b.ensures (λ v h e. not_two c.ar
 pub returns-in_err-c : goal.returns-in_err-c
 returns-in_err-c c = rw c.from_residual-in_err-c.ensures (λ v h e. not_three c.args.s.now v h e c.in_ok-a.rest.now c.in_ok-b.rest.now c.in_ok-a.ensures.first c.in_ok-b.ensures.first c.in_err-c.ensures)
 
-pub returns-in_err-first : goal.returns-in_err-first
-returns-in_err-first c = rw c.from_residual-in_err-first.ensures (λ v h e. not_first c.args.s.now v h e c.in_ok-a.ensures.first c.in_err-first.ensures)
+pub returns-in_err-parse_source : goal.returns-in_err-parse_source
+returns-in_err-parse_source c = rw c.from_residual-in_err-parse_source.ensures (λ v h e. not_first c.args.s.now v h e c.in_ok-a.ensures.first c.in_err-parse_source.ensures)
 
-pub returns-in_err-second : goal.returns-in_err-second
-returns-in_err-second c = rw c.from_residual-in_err-second.ensures (λ v h e. not_second c.args.s.now v h e c.in_ok-a.rest.now c.in_ok-a.ensures.first c.in_ok-b.ensures.first c.in_err-second.ensures)
+pub returns-in_err-parse_source-2 : goal.returns-in_err-parse_source-2
+returns-in_err-parse_source-2 c = rw c.from_residual-in_err-parse_source-2.ensures (λ v h e. not_second c.args.s.now v h e c.in_ok-a.rest.now c.in_ok-a.ensures.first c.in_ok-b.ensures.first c.in_err-parse_source-2.ensures)
 
-pub returns-in_err-third : goal.returns-in_err-third
-returns-in_err-third c = rw c.from_residual-in_err-third.ensures (λ v h e. not_third c.args.s.now v h e c.in_ok-a.rest.now c.in_ok-b.rest.now c.in_ok-a.ensures.first c.in_ok-b.ensures.first c.in_ok-c.ensures.first c.in_err-third.ensures)
+pub returns-in_err-parse_source-3 : goal.returns-in_err-parse_source-3
+returns-in_err-parse_source-3 c = rw c.from_residual-in_err-parse_source-3.ensures (λ v h e. not_third c.args.s.now v h e c.in_ok-a.rest.now c.in_ok-b.rest.now c.in_ok-a.ensures.first c.in_ok-b.ensures.first c.in_ok-c.ensures.first c.in_err-parse_source-3.ensures)
 
-pub returns-in_err-fourth : goal.returns-in_err-fourth
-returns-in_err-fourth c = rw c.from_residual-in_err-fourth.ensures (λ v h e. not_fourth c.args.s.now v h e c.in_ok-a.rest.now c.in_ok-b.rest.now c.in_ok-c.d.now c.in_ok-a.ensures.first c.in_ok-b.ensures.first c.in_ok-c.ensures.first c.in_err-fourth.ensures)
+pub returns-in_err-parse_source-4 : goal.returns-in_err-parse_source-4
+returns-in_err-parse_source-4 c = rw c.from_residual-in_err-parse_source-4.ensures (λ v h e. not_fourth c.args.s.now v h e c.in_ok-a.rest.now c.in_ok-b.rest.now c.in_ok-c.d.now c.in_ok-a.ensures.first c.in_ok-b.ensures.first c.in_ok-c.ensures.first c.in_err-parse_source-4.ensures)

@@ -1,9 +1,7 @@
-use Rattle.std.proofs.Common.{◌≡◌, ℕ, min, List, [], ◌∷◌, length, get_or, Some, sym, refl, ap, ◌∙◌, rules}
-use Rattle.std.proofs.lemmas.List.{length-take}
+use Rattle.std.proofs.Common.{◌≡◌, ℕ, min, List, length, Some, refl, ap, rules}
 use Rattle.block.specs.Laws.{StepLaws}
 use Rattle.block.specs.Of.{meaning}
-use Rattle.desk.specs.Desks.{shown, lent}
-use Rattle.desk.proofs.Lent.{first_after, rest_after}
+use Rattle.desk.proofs.Lent.{rest_after, same_count}
 use Rattle.desk.proofs.Pastings.{call_goes_on}
 use Rattle.desk.proofs.Serving.{returned, called_first}
 use Rattle.desk.proofs.desk.Desk.answer.Given as given
@@ -29,18 +27,15 @@ returns g c =
     let called = called_first m c.args.call.now c.call_station-reply.result d.station c.call_station-reply.new.station d.blocks k t t₁ d.bytes j o o₁ ke kl je jl c.call_station-reply.ensures in
     let table = rest_after d.blocks k t ke t₁ kl in
     let outputs = rest_after d.bytes j o je o₁ jl in
-    let blocks_same : length (lent d.blocks (returned k t t₁)) ≡ length (lent d.blocks t) = ap length (first_after d.blocks k t ke t₁ kl) ∙ kl ∙ ke ∙ sym (length-take d.blocks t) in
-    let bytes_same : length (lent d.bytes (returned j o o₁)) ≡ length (lent d.bytes o) = ap length (first_after d.bytes j o je o₁ jl) ∙ jl ∙ je ∙ sym (length-take d.bytes o) in
-    let bytes : c.byte_at.result ∷ c.byte_at-2.result ∷ [] ≡ shown (returned j o o₁) = ap (λ (x : ℕ). x ∷ c.byte_at-2.result ∷ []) c.byte_at.ensures ∙ ap (λ (x : ℕ). get_or (returned j o o₁) 0 0 ∷ x ∷ []) c.byte_at-2.ensures in
     record {
       served = record {
         reply = c.call_station-reply.result;
-        answer = ap (λ (x : List ℕ). Some (record { reply = c.call_station-reply.result; outputs = x })) bytes;
+        answer = ap (λ (x : List ℕ). Some (record { reply = c.call_station-reply.result; outputs = x })) c.shown.ensures;
         outcome = called.outcome;
         table = table;
         outputs = outputs;
         blocks = refl;
         bytes = refl;
       };
-      past = call_goes_on m (laws g) c.args.call.now c.call_station-reply.result d _ t (returned k t t₁) o (returned j o o₁) called table outputs blocks_same bytes_same (c.byte_at.result ∷ c.byte_at-2.result ∷ []);
+      past = call_goes_on m (laws g) c.args.call.now c.call_station-reply.result d _ t (returned k t t₁) o (returned j o o₁) called table outputs (same_count d.blocks k t ke t₁ kl) (same_count d.bytes j o je o₁ jl) c.shown.result;
     }

@@ -1,8 +1,6 @@
-use Rattle.std.proofs.Common.{List, vec_items, subst, take_all, rules}
+use Rattle.std.proofs.Common.{vec_items, rules}
 use Rattle.block.specs.Of.{meaning}
-use Rattle.desk.specs.declared.answer.Answer.{Answer}
-use Rattle.desk.specs.declared.request.Request.{Request}
-use Rattle.desk.specs.Runs.{Ran, scene}
+use Rattle.desk.specs.Runs.{scene}
 use Rattle.desk.proofs.Running.{ran_none, ran_more}
 use Rattle.desk.proofs.desk.Desk.run.Goals as goal
 
@@ -18,10 +16,3 @@ loop-request-preserved g c = (
       c.loop-request-test.true c.request-item.is c.loop-request.invariant.0 c.serve_and_note.ensures.turn c.serve_and_note.ensures.past,
   search rules,
 )
-
-pub returns : goal.returns
-returns g c =
-    let end = scene c.loop-request.self c.loop-request.table c.loop-request.outputs (vec_items c.loop-request.answers) in
-    let all = take_all c.loop-request.request-index c.args.requests.now c.loop-request-test.false in
-    subst (λ (xs : List Answer). Ran (meaning g.B.Block) c.args.requests.now (scene c.args.self.now c.args.table.now c.args.outputs.now xs) end) c.reserve.ensures.items
-    (subst (λ (rs : List Request). Ran (meaning g.B.Block) rs (scene c.args.self.now c.args.table.now c.args.outputs.now (vec_items c.reserve.new.self)) end) all c.loop-request.invariant.0)

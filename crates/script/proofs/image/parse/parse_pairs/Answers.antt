@@ -1,24 +1,16 @@
-use Rattle.std.proofs.Common.{◌≡◌, ◌/◌, ◌<◌, ◌≢◌, length, take, arith, length-set, get_or-set_other, get_or-set_same, below_more}
-use Rattle.std.proofs.lemmas.List.{length-take-le, get_or-take}
+use Rattle.std.proofs.Common.{◌/◌, length, arith, below_more}
+use Rattle.std.proofs.lemmas.Grind.{common_steps}
+use Rattle.script.proofs.Pairs.{pair_digits}
 use Rattle.script.proofs.image.parse.parse_pairs.Goals as goal
 
-pub loop-i-preserved : goal.loop-i-preserved
-loop-i-preserved c = (
-  simp length-set c.loop-i.invariant.0,
-  below_more _ _
-      (λ k h. let ne : k ≢ c.loop-i.i = omega arith in rw get_or-set_other (c.loop-i.invariant.1 k h))
-      (let lt : c.loop-i.i < length c.loop-i.bytes = omega arith in rw get_or-set_same c.in_ok-bytes.ensures),
-)
+pub returns-in_err-parse_hex_byte : goal.returns-in_err-parse_hex_byte
+returns-in_err-parse_hex_byte c =
+    let digits = pair_digits (length c.args.s.now / 2) c.loop-high.high-index c.args.s.now (omega arith) in
+    let none = rw (c.as_chunks.ensures.front, digits.0, digits.1) at c.in_err-parse_hex_byte.ensures in
+    rw c.from_residual.ensures (λ v w. none _ (w.each c.loop-high.high-index (omega (arith, w.twice))))
 
-pub returns : goal.returns
-returns c =
-    let s = c.args.s.now in
-    let size = length s / 2 in
-    let bytes = c.loop-i.bytes in
-    let long = c.is_pairs_long.ensures.0 c.if-not-is_pairs_long.false in
-    let count : length (take size bytes) ≡ size = length-take-le size bytes (omega arith) in
-    record {
-      long = long;
-      twice = omega arith;
-      each = λ k h. let lt : k < size = omega arith in rw get_or-take (c.loop-i.invariant.1 k (omega arith));
-    }
+pub loop-high-preserved : goal.loop-high-preserved
+loop-high-preserved c =
+    let digits = pair_digits (length c.args.s.now / 2) c.loop-high.high-index c.args.s.now (omega arith) in
+    let here = rw (c.as_chunks.ensures.front, digits.0, digits.1) at c.in_ok-parse_hex_byte.ensures in
+    rw c.push.ensures.bytes (grind (arith, common_steps), below_more _ _ (λ k h. grind (arith, common_steps, c.loop-high.invariant.1 k h)) (grind (arith, common_steps)))

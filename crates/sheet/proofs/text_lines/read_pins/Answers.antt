@@ -1,0 +1,7 @@
+use Rattle.std.proofs.Common.{rules}
+use Rattle.sheet.specs.Sheet.{pins_text_due}
+use Rattle.sheet.proofs.Due.{read_step}
+use Rattle.sheet.proofs.text_lines.read_pins.Goals as goal
+
+pub returns : goal.returns
+returns c = read_step pins_text_due c.args.reader.now c.read.new.reader c.read.ensures (λ bytes o k. search rules) (λ v k. search rules) (λ v k. search rules)
