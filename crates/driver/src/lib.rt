@@ -18,7 +18,7 @@ fn read_standard_input(rt: &HostRuntime) -> anyhow::Result<Vec<u8>> {
     Ok(script)
 }
 
-// Plays a script on the station of this name.
+// Plays a script on the station of this name. Each arm plays at a type of its own, so a table of functions would only name them again.
 fn play_on(rt: &HostRuntime, station: &str, script: &[u8]) -> anyhow::Result<()> {
     match station {
         "catalogue" => play::<Bare>(rt, script),

@@ -1,4 +1,4 @@
-// Reads a whole sheet: its head, its rows and its outputs.
+// Reads a whole sheet: its head, its rows and its outputs. Each fault is turned into the next alone, so a text's goes up by two steps.
 ghost use Rattle.std.specs.Prelude.{◌≡◌, true, Ok, MatchResult};
 ghost use Rattle.sheet.specs.Loads.{text, Refused};
 ghost use Rattle.sheet.specs.Tables.{RowAnswer, RowsAnswer, OutsAnswer, WiringAnswer};

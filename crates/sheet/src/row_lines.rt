@@ -26,7 +26,7 @@ pub fn read_head(reader: &mut Reader) -> Result<Head, RowFault>
     })
 }
 
-// A time of at least `low` milliseconds.
+// A time of at least `low` milliseconds. A guard, here and below: of `then_some(..).ok_or(..)` in its place the check found no proof.
 fn read_time(reader: &mut Reader, key: &[u8], low: u16) -> Result<u16, RowFault>
     ensures { RowStep (time_due key.now low) reader.old reader.new result }
 {

@@ -98,7 +98,7 @@ impl Placed<'_, u64> {
     }
 }
 
-// The terminals that each row needs, by the clear words of its block in the table.
+// The terminals that each row needs, by the clear words of its block in the table. Rows and table stay two arguments, as in a scan.
 pub(crate) fn row_masks<B: Block>(rows: &[Row], table: &[B]) -> ArrayVec<u64, MOST_ROWS>
     requires rows_len_bound { length rows.now ≤ table_size }
     requires rows_in_bounds { length rows.now ≤ length table.now }

@@ -18,7 +18,7 @@ pub enum Refusal {
 }
 
 impl Refusal {
-    // A method and no `From`: a refused loading tells more than a number.
+    // A method and no `From`, alike for both: a refused loading tells more than a number.
     pub fn number(self) -> u8
         ensures { result ≡ refusal_number self }
     {

@@ -6,7 +6,7 @@ use crate::cut::cut_once;
 use crate::numbers::parse_pair;
 use crate::source::Source;
 
-// The letter stands in each reader's own pattern; the two digits after it are what the readers share.
+// A rule takes sources apart by slice patterns, so the letter stands in each reader's own; the two digits after it are shared.
 pub fn parse_source(s: &[u8]) -> Option<Source>
     ensures { Parsed Short source_text s.now result }
 {

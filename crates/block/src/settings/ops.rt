@@ -31,6 +31,7 @@ impl Settings {
     pub fn new(kind: Kind, start: bool, auto: bool) -> Option<Settings>
         ensures { SettingsMade kind start auto result }
     {
+        // Of `then` in place of the branches no proof closes: in its closure the test is not known to hold.
         if are_settings_allowed(kind, start, auto) {
             Some(Settings { kind, start, auto })
         } else {

@@ -22,6 +22,7 @@ impl Times {
     pub fn new(min: u16, max: u16) -> Option<Times>
         ensures { TimesMade min max result }
     {
+        // Of `then` in place of the branches no proof closes: in its closure the test is not known to hold.
         if are_times_allowed(min, max) {
             Some(Times { min, max })
         } else {

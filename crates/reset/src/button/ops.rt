@@ -72,7 +72,7 @@ impl ResetButton {
         self.fields.state.code()
     }
 
-    // One step: answers the pulse and the code, a pair, which the layer above takes apart.
+    // One step: answers pulse and code together, a pair, as a rule of the library asks; the layer above takes it apart.
     pub fn step(&mut self, input: ResetInput) -> (bool, Code)
         ensures after { plain self.new ≡ button_next (plain self.old) input }
         ensures answers { result ≡ (is_pulse (plain self.new).state, button_code (plain self.new).state) }
