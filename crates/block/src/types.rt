@@ -1,5 +1,6 @@
 // The plain values of the interface: modes, words of pins, the input of a step, kinds of block.
 ghost use Rattle.std.specs.Prelude.{◌≡◌, Some};
+ghost use Rattle.std.specs.Fmt.{styled_text};
 ghost use Rattle.block.specs.Modes.{mode_word};
 
 use std::fmt;
@@ -31,6 +32,8 @@ impl Mode {
 
 impl fmt::Display for Mode {
     ghost output = { λ m. Some (mode_word m) };
+
+    ghost styled_output = { λ m s. Some (styled_text s (mode_word m)) };
 
     fn fmt<W: fmt::Write>(&self, f: &mut fmt::Formatter<W>) -> fmt::Result {
         f.pad(self.word())

@@ -60,5 +60,6 @@ pub record PastGoesOn {B : Type 0} (m : Meaning B) (r : Request) (a : Option Ans
   pub fits : FitsPast m p' d' t' o'
   pub promised : KeepsPromises m p' t' o'
 
+-- each past that fits what a request finds goes on to one that fits what it leaves
 abbrev pub EveryPastGoesOn : {B : Type 0} → Meaning B → Request → Option Answer → (d d' : Desk) (t t' : List B) (o o' : List ℕ) → Type 0
 EveryPastGoesOn m r a d d' t t' o o' = (p : Past) → FitsPast m p d t o → (p' : Past) × PastGoesOn m r a d d' t t' o o' p p'

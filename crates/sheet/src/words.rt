@@ -1,5 +1,6 @@
 // Layers and faults as they are printed.
 ghost use Rattle.std.specs.Prelude.{◌≡◌, Some};
+ghost use Rattle.std.specs.Fmt.{styled_text};
 ghost use Rattle.sheet.specs.Words.{layer_word, fault_shown};
 
 use crate::fault::{Fault, Layer, WiringFault};
@@ -19,6 +20,8 @@ impl Layer {
 
 impl fmt::Display for Layer {
     ghost output = { λ l. Some (layer_word l) };
+
+    ghost styled_output = { λ l s. Some (styled_text s (layer_word l)) };
 
     fn fmt<W: fmt::Write>(&self, f: &mut fmt::Formatter<W>) -> fmt::Result {
         f.pad(self.word())

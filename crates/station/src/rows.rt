@@ -78,8 +78,7 @@ impl<B: Block> Placed<'_, B> {
     }
 }
 
-// Rows and table stay two arguments here and below, with the bound between them: of a table that a field lends by `&mut` a proof knows little.
-// Steps the block of each row in order.
+// Steps the block of each row in order. Rows and table stay two arguments, here and below: of a table that a field lends by `&mut` a proof knows little.
 pub(crate) fn scan_rows<B: Block>(
     rows: &[Row],
     image: &[u8; 8],

@@ -28,7 +28,7 @@ fn are_sizes_allowed(blocks: usize, bytes: usize) -> bool
     blocks == 32 && bytes == 2
 }
 
-// Table and output bytes stay two arguments: so the calls are asked for.
+// Table and output bytes stay two arguments, as a rule of the library gives the calls.
 impl Station {
     // Loads a sheet: makes the blocks of its rows and switches the outputs off, or refuses and leaves all as found.
     pub fn load<B: Block>(
