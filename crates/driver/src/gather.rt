@@ -32,7 +32,8 @@ pub fn gather(
 ) -> Result<anyhow::Result<()>, AllocError> {
     for line in Script(script) {
         match request_of(rt, line) {
-            Ok(request) => requests.extend(request)?,
+            Ok(Some(request)) => requests.push(request)?,
+            Ok(None) => {}
             Err(fault) => return Ok(Err(fault)),
         }
     }

@@ -10,15 +10,15 @@ pub(crate) fn parse_number(s: &[u8], limit: u32) -> Option<u32>
         return None;
     }
     // A loop, whose invariant says what the digits so far write; a closure of `try_fold` would have to say it.
-    let mut n = 0u32;
+    let mut n = 0u64;
     for c in s {
         let digit = char::from(*c).to_digit(10)?;
-        n = n.checked_mul(10)?.checked_add(digit)?;
-        if n > limit {
+        n = 10 * n + u64::from(digit);
+        if n > u64::from(limit) {
             return None;
         }
     }
-    Some(n)
+    Some(n as u32)
 }
 
 // The same where the limit is a byte, so that the cast loses nothing.

@@ -16,14 +16,19 @@ returns-in_err-head c =
 pub returns-in_err-rows : goal.returns-in_err-rows
 returns-in_err-rows c =
     let p = err_from_is_err_and c.from_residual-in_err-rows.result c.from_residual-in_err-rows.ensures.1 in
-    rw (p.1, p.2) (rows_refused c.in_ok-head.head (at c.args.reader.now) (at c.read_head.new.reader) c.in_ok-head.ensures c.in_err-rows.field-0.0 c.in_err-rows.ensures)
+    let h = c.in_ok-head.head in
+    let t = c.in_ok-head.ensures in
+    rw (p.1, p.2)
+    (rows_refused known h.count h.outputs h.times.min h.times.max (at c.args.reader.now) t.after_rows t.after_outs t.after_min (at c.read_head.new.reader) t.rows t.outs t.min t.max c.in_err-rows.field-0.0 c.in_err-rows.ensures)
 
 pub returns-in_err-outs : goal.returns-in_err-outs
 returns-in_err-outs c =
     let p = err_from_is_err_and c.from_residual-in_err-outs.result c.from_residual-in_err-outs.ensures.1 in
+    let h = c.in_ok-head.head in
+    let t = c.in_ok-head.ensures in
     rw (p.1, p.2)
-    (outs_refused c.in_ok-head.head (at c.args.reader.now) (at c.read_head.new.reader) c.in_ok-head.ensures
-    (map row_said (take c.in_ok-head.head.count c.in_ok-rows.rows)) (at c.read_rows.new.reader) c.in_err-outs.field-0.0 c.in_ok-rows.ensures.lines c.in_err-outs.ensures)
+    (outs_refused known h.count h.outputs h.times.min h.times.max (at c.args.reader.now) t.after_rows t.after_outs t.after_min (at c.read_head.new.reader) t.rows t.outs t.min t.max
+    (map row_said (take h.count c.in_ok-rows.rows)) (at c.read_rows.new.reader) c.in_err-outs.field-0.0 c.in_ok-rows.ensures.lines c.in_err-outs.ensures)
 
 pub new-requires : goal.new-requires
 new-requires c =
@@ -38,6 +43,7 @@ returns c =
     let p = at c.args.reader.now in
     let q = at c.read_outs.new.reader in
     let m = c.new.ensures in
-    let lines = sheet_accepted h p (at c.read_head.new.reader) c.in_ok-head.ensures rows outs (at c.read_rows.new.reader) q c.in_ok-rows.ensures.lines c.in_ok-outs.ensures.lines in
+    let t = c.in_ok-head.ensures in
+    let lines = sheet_accepted known h.count h.outputs h.times.min h.times.max p t.after_rows t.after_outs t.after_min (at c.read_head.new.reader) t.rows t.outs t.min t.max rows outs (at c.read_rows.new.reader) q c.in_ok-rows.ensures.lines c.in_ok-outs.ensures.lines in
     subst (λ z. Accepted (sheet_form known) z p q)
     (λ i. record { count = sym m.count i; outputs = sym m.outputs i; min = sym (ap (λ t. t.min) m.times) i; max = sym (ap (λ t. t.max) m.times) i; rows = map row_said (take (sym m.count i) (sym m.rows i)); outs = take (sym m.outputs i) (sym m.outs i) }) lines
